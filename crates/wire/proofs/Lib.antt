@@ -1,0 +1,6 @@
+pub mod ListLaws
+pub mod TableLaws
+pub mod NumberLaws
+pub mod PutLaws
+pub mod StretchLaws
+mod Examples

@@ -1,0 +1,70 @@
+"""must_fail.py LOG: holds the comment of every must-fail edit against the place at which `rt ci` printed that the edit is refused.
+
+Each crates/NAME/must-fail/LABEL.edit has a line `# refused at: FILE NEED`: the file, below the crate, and the declaration in it that states the
+fact which the edit breaks. `rt ci` prints `must-fail NAME/LABEL: refused, as it must be (first at FILE:LINE:COLUMN; .. s)`, and leaves the edited
+crate and the prover's log below target/must-fail/NAME/LABEL.
+"""
+import glob
+import os
+import re
+import sys
+
+
+def promised(edit):
+    """The file and the need that the edit's comment names, or None."""
+    with open(edit, encoding="utf-8") as lines:
+        for line in lines:
+            found = re.match(r"# refused at: (\S+) (\S+)\s*$", line)
+            if found:
+                return found.groups()
+    return None
+
+
+def enclosing(path, number):
+    """The names of the declarations that hold the line: of each lesser indent the nearest signature above it, or the function's name."""
+    with open(path, encoding="utf-8") as text:
+        lines = text.read().split("\n")
+    names, indent = [], None
+    for line in reversed(lines[:number]):
+        found = re.match(r"( *)(?:pub |abbrev |unfoldable |extern \"C\" )*(?:fn (\w+)|(\S+) (?=:( |$)))", line)
+        if found and (indent is None or len(found.group(1)) < indent):
+            indent = len(found.group(1))
+            names.append(found.group(2) or found.group(3))
+        if indent == 0:
+            break
+    return names
+
+
+def complaint(edit, places):
+    """What is wrong with an edit, or None."""
+    crate, label = edit.split("/")[1], os.path.basename(edit)[: -len(".edit")]
+    name = f"{crate}/{label}"
+    promise = promised(edit)
+    if not promise:
+        return f"{name}: no comment '# refused at: FILE NEED'"
+    if name not in places:
+        return f"{name}: rt ci printed no place for it"
+    file, number = places[name]
+    if file != promise[0]:
+        return f"{name}: refused at {file}:{number}, its comment says {promise[0]}"
+    folder = f"target/must-fail/{name}"
+    if promise[1] not in enclosing(f"{folder}/{file}", number):
+        return f"{name}: refused at {file}:{number} in {enclosing(f'{folder}/{file}', number)}, its comment says {promise[1]}"
+    with open(f"{folder}/.log", encoding="utf-8") as log:
+        first = next((line for line in log if ": error" in line), "")
+    if "has no `Need-" in first or "expected type `tie.Need-" in first:
+        return f"{name}: the edit only made the proof file unfit: {first.strip()[:200]}"
+    return None
+
+
+def main():
+    with open(sys.argv[1], encoding="utf-8") as log:
+        told = re.findall(r"must-fail (\S+): refused, as it must be \(first at ([^:;]+):(\d+):", log.read())
+    places = {name: (file, int(number)) for name, file, number in told}
+    edits = sorted(glob.glob("crates/*/must-fail/*.edit"))
+    wrong = [text for text in (complaint(edit, places) for edit in edits) if text]
+    print("\n".join(wrong + [f"{len(edits)} must-fail edits, {len(wrong)} not refused where they say"]))
+    return 1 if wrong or not edits else 0
+
+
+sys.exit(main())

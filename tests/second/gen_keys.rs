@@ -1,0 +1,145 @@
+// The dictionary as the generator draws from it: every key with its kind, the keys by kind, and
+// the AVPs that each command uses by document 01.
+
+use crate::dictionary::{Dictionary, Kind};
+use crate::random::Random;
+use std::collections::{BTreeMap, BTreeSet};
+
+/// The vendor of TS 29.272.
+pub const TGPP: u32 = 10415;
+
+/// No code of the dictionary is as large.
+const CODES: u32 = 5000;
+
+/// Vendors of which the dictionary has no AVP.
+const STRANGERS: [u32; 5] = [1, 9, 10416, 13019, 0xFFFF_FFFF];
+
+#[derive(Clone, Copy, PartialEq, Eq)]
+pub enum Command {
+    Ulr,
+    Pur,
+    Nor,
+}
+
+impl Command {
+    /// The command code: Update-Location 316, Purge-UE 321, Notify 323.
+    pub fn code(self) -> u32 {
+        match self {
+            Command::Ulr => 316,
+            Command::Pur => 321,
+            Command::Nor => 323,
+        }
+    }
+
+    /// "Required: Session-Id, ... User-Name; for ULR also RAT-Type, ULR-Flags, Visited-PLMN-Id."
+    pub fn required(self) -> &'static [&'static str] {
+        match self {
+            Command::Ulr => &REQUIRED,
+            _ => &REQUIRED[0..6],
+        }
+    }
+
+    /// "Used when there: ... PUR-Flags in PUR; NOR-Flags in NOR; Terminal-Information in ULR and NOR".
+    pub fn optional(self) -> &'static [&'static str] {
+        match self {
+            Command::Ulr => &["Terminal-Information"],
+            Command::Pur => &["PUR-Flags"],
+            Command::Nor => &["Terminal-Information", "NOR-Flags"],
+        }
+    }
+}
+
+const REQUIRED: [&str; 9] = [
+    "Session-Id",
+    "Auth-Session-State",
+    "Origin-Host",
+    "Origin-Realm",
+    "Destination-Realm",
+    "User-Name",
+    "RAT-Type",
+    "ULR-Flags",
+    "Visited-PLMN-Id",
+];
+
+#[derive(Clone, Copy)]
+pub struct Key {
+    pub vendor: u32,
+    pub code: u32,
+    pub kind: Kind,
+}
+
+pub struct Keys {
+    pub known: Vec<Key>,
+    /// Groups that the reader enters.
+    pub groups: Vec<Key>,
+    /// Proxy-Info and Failed-AVP, which it does not enter.
+    pub closed: Vec<Key>,
+    /// AVPs of 4 or 8 bytes.
+    pub fixed: Vec<Key>,
+    names: BTreeMap<String, Key>,
+    pairs: BTreeSet<(u32, u32)>,
+}
+
+impl Keys {
+    pub fn new(dictionary: &Dictionary) -> Keys {
+        let mut known = Vec::new();
+        let mut names = BTreeMap::new();
+        for vendor in [0, TGPP] {
+            for code in 0..CODES {
+                if let (Some(kind), Some(name)) = (dictionary.kind(vendor, code), dictionary.name(vendor, code)) {
+                    known.push(Key { vendor, code, kind });
+                    names.insert(name.to_string(), Key { vendor, code, kind });
+                }
+            }
+        }
+        let of = |kinds: &[Kind]| known.iter().filter(|key| kinds.contains(&key.kind)).copied().collect();
+        Keys {
+            groups: of(&[Kind::Group]),
+            closed: of(&[Kind::Closed]),
+            fixed: of(&[Kind::Four, Kind::Eight]),
+            pairs: known.iter().map(|key| (key.vendor, key.code)).collect(),
+            names,
+            known,
+        }
+    }
+
+    /// The key with this name, which is one of the dictionary's.
+    pub fn named(&self, name: &str) -> Key {
+        self.names[name]
+    }
+
+    /// Any known key that the command neither uses nor copies.
+    pub fn unused(&self, random: &mut Random, command: Command) -> Key {
+        loop {
+            let key = random.pick(&self.known);
+            let mut used = command.required().iter().chain(command.optional());
+            if !used.any(|name| self.is(key, name)) && !self.is(key, "Proxy-Info") {
+                return key;
+            }
+        }
+    }
+
+    pub fn is(&self, key: Key, name: &str) -> bool {
+        let named = self.named(name);
+        (named.vendor, named.code) == (key.vendor, key.code)
+    }
+
+    /// A key of no row: a free code, a vendor of which there is nothing, or a known code under
+    /// the other vendor.
+    pub fn unknown(&self, random: &mut Random) -> (u32, u32) {
+        loop {
+            let near = random.pick(&self.known);
+            let pair = match random.below(6) {
+                0 => (0, random.within(0, CODES as usize) as u32),
+                1 => (TGPP, random.within(0, CODES as usize) as u32),
+                2 => (random.pick(&STRANGERS), near.code),
+                3 => (TGPP - near.vendor, near.code),
+                4 => (near.vendor, near.code.wrapping_add(random.pick(&[1, 0xFFFF_FFFF, 0x0100_0000]))),
+                _ => (random.pick(&[0, TGPP]), random.number()),
+            };
+            if !self.pairs.contains(&pair) {
+                return pair;
+            }
+        }
+    }
+}

@@ -1,0 +1,28 @@
+# Sourced by the scripts that run on a fresh machine: says what is missing, and installs what Debian has.
+# The Rattle kit's `rt` has to be on the path; its version is pinned in README.md.
+
+if ! command -v rt >/dev/null; then
+    echo "setup: 'rt' of the Rattle kit is not on the path (README.md, \"What it needs\")" >&2
+    exit 2
+fi
+
+# Installs the Debian package $2 where the command $1 is not there.
+need() {
+    command -v "$1" >/dev/null && return
+    echo "setup: installing $2 for '$1'" >&2
+    if [ -z "${apt_updated:-}" ]; then apt-get update -qq >&2 && apt_updated=1; fi
+    DEBIAN_FRONTEND=noninteractive apt-get install -y -qq --no-install-recommends "$2" >/dev/null || {
+        echo "setup: '$1' is missing and the package $2 could not be installed" >&2
+        exit 2
+    }
+}
+
+need make make
+need python3 python3
+need rustc rustc
+
+# The pinned version is the one that the proofs were last checked with; another one may still pass the gate.
+pinned=$(sed -n 's/^Rattle kit: `\(.*\)`.*/\1/p' README.md)
+if [ "$(rt version)" != "$pinned" ]; then
+    echo "setup: note: this is '$(rt version)', README.md pins '$pinned'" >&2
+fi
