@@ -25,6 +25,7 @@ run_test second-unit "the second program's unit tests" unit_tests_of_second
 run_test second-named "named cases, by the second program" named_cases build/second cases
 run_test second-desk "desk cases, by the second program" desk_cases build/second desk
 run_test tally "50,000 generated cases reach every row of the tally" tally 1 50000
+run_test reader "the proved reader and the second program agree on more than 20,000 messages" reader_compare 1 6000
 
 echo "$passed passed, $failed failed"
 [ "$failed" -eq 0 ]

@@ -71,8 +71,8 @@ ANSWERS = {
 }
 
 FIELDS = [
-    "Session-Id", "Result-Code", "Experimental-Result-Code", "Vendor-Id", "Origin-Host", "Origin-Realm", "3gpp.ula_flags",
-    "3gpp.pua_flags", "Subscriber-Status", "3gpp.acc_res_dat_flags", "Max-Requested-Bandwidth-UL",
+    "Session-Id", "Result-Code", "Experimental-Result-Code", "Vendor-Id", "Auth-Session-State", "Origin-Host", "Origin-Realm",
+    "3gpp.ula_flags", "3gpp.pua_flags", "Subscriber-Status", "3gpp.acc_res_dat_flags", "Max-Requested-Bandwidth-UL",
     "Max-Requested-Bandwidth-DL", "User-Name", "RAT-Type", "Proxy-Host", "Proxy-State", "avp.unknown",
 ]
 
@@ -180,33 +180,33 @@ def avps(row):
     return [f"{code} {length} {flag_letters(flags, [(128, 'V'), (64, 'M'), (32, 'P')])}" for code, length, flags in zip(*columns)]
 
 
-def read_answer(row, frame):
-    """What one row says, in the form of ANSWERS; anything tshark calls malformed is a remark."""
+def read_answer(row, request, frame):
+    """What the answer's row says, in the form of ANSWERS; anything tshark calls malformed is a remark."""
     flags = flag_letters(row["diameter.flags"], [(128, "R"), (64, "P"), (32, "E"), (16, "T")])
     values = {field: row["diameter." + field] for field in FIELDS if row["diameter." + field]}
     remarks = [row["_ws.expert.message"], row["_ws.malformed"]]
-    if row["diameter.answer_to"] != str(frame - 1):
+    if row["diameter.answer_to"] != str(frame - 1) or row["diameter.endtoendid"] != request["diameter.endtoendid"]:
         remarks.append("not the answer to the request before it")
     return flags, row["diameter.cmd.code"], row["diameter.applicationId"], avps(row), values, [text for text in remarks if text]
 
 
 def same(expected, read):
     *parts, values, remarks = expected
-    values = {"Origin-Host": HOST, "Origin-Realm": REALM, **values}
+    values = {"Auth-Session-State": "1", "Origin-Host": HOST, "Origin-Realm": REALM, **values}
     told = " ".join(read[5])
     return list(read[:4]) == parts and read[4] == values and bool(told) == bool(remarks) and all(text in told for text in remarks)
 
 
 def judge(names, pcap):
     """For each case whether its answer, and what is asked of its request, was read as expected."""
-    header = ["diameter.flags", "diameter.cmd.code", "diameter.applicationId", "diameter.answer_to"]
+    header = ["diameter.flags", "diameter.cmd.code", "diameter.applicationId", "diameter.answer_to", "diameter.endtoendid"]
     parts = ["diameter.avp.code", "diameter.avp.len", "diameter.avp.flags", "_ws.expert.message", "_ws.malformed"]
     asked = sorted({field for row in REQUESTS.values() for field in row})
     rows = table(pcap, header + parts + ["diameter." + field for field in FIELDS])
     request_rows = table(pcap, asked)
     wrong = []
     for i, name in enumerate(names):
-        read = read_answer(rows[2 * i + 1], 2 * i + 2)
+        read = read_answer(rows[2 * i + 1], rows[2 * i], 2 * i + 2)
         if not same(ANSWERS[name], read):
             wrong.append(f"{name}: expected {ANSWERS[name]}, tshark reads {read}")
         for field, value in REQUESTS.get(name, {}).items():

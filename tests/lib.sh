@@ -22,6 +22,18 @@ run_test() { # KEY WORDS COMMAND..
     fi
 }
 
+# Programs of the registry are x86-64: compiled and run natively there, by a cross compiler and an emulator elsewhere.
+if [ "$(uname -m)" = x86_64 ]; then
+    x86_cc=gcc x86_run=()
+else
+    x86_cc=x86_64-linux-gnu-gcc x86_run=(qemu-x86_64)
+fi
+
+# Compiles a C program of the tests with a static library of crate CRATE.
+build_harness() { # CRATE SOURCE PROGRAM
+    rt staticlib "$1" && "$x86_cc" -O2 -Wall -Wextra -Werror -static -Iinclude "$2" "target/staticlib/lib$1.a" -o "$3"
+}
+
 build_second() {
     rustc -O --edition 2021 -D warnings tests/second/main.rs -o build/second
 }
@@ -38,20 +50,28 @@ named_cases() { # PROGRAM..
     done
 }
 
-# Hex with comments, as bytes.
-unhex() { # FILE
-    python3 -c 'import sys; sys.stdout.buffer.write(bytes.fromhex("".join(line.split("#")[0] for line in open(sys.argv[1]))))' "$1"
-}
-
 # The desk's inputs (hex with comments) through a program that reads frames, against the lines that stand beside them.
 desk_cases() { # PROGRAM..
     local input
     for input in tests/cases/desk/*.in; do
-        unhex "$input" | "$@" | diff - "${input%.in}.out" || return 1
+        python3 tests/unhex.py "$input" | "$@" | diff - "${input%.in}.out" || return 1
     done
 }
 
 # Generated cases, tallied: a row that comes up fewer than 20 times fails.
 tally() { # SEED COUNT
     build/second gen "$1" "$2" | build/second tally
+}
+
+# The proved message reader and the second program on messages made from generated cases: requests, answers, longer and damaged ones, and a megabyte of
+# empty AVPs (which would end a reader whose stack grows with the number of AVPs).
+reader_compare() { # SEED COUNT
+    local out=build/reader
+    mkdir -p "$out"
+    build_harness reader_c tests/reader_harness.c "$out/harness" || return 1
+    build/second gen "$1" "$2" >"$out/cases" && build/second cases <"$out/cases" >"$out/outcomes" || return 1
+    python3 tests/reader_messages.py "$out/cases" "$out/outcomes" "$1" >"$out/messages" || return 1
+    build/second read <"$out/messages" >"$out/second" || return 1
+    "${x86_run[@]}" "$out/harness" <"$out/messages" >"$out/proved" || return 1
+    python3 tests/reader_compare.py "$out/messages" "$out/proved" "$out/second"
 }

@@ -12,4 +12,4 @@ echo
 echo "The crates of crates.txt are proved. The registry's own program, the desk, is not built yet."
 echo "What document 01 says of its desk example, by the second program (frame number, letter, code, answer length, entries listed):"
 build_second || exit 1
-unhex tests/cases/desk/worked.in | build/second desk
+python3 tests/unhex.py tests/cases/desk/worked.in | build/second desk

@@ -20,6 +20,12 @@ need() {
 need make make
 need python3 python3
 need rustc rustc
+if [ "$(uname -m)" = x86_64 ]; then
+    need gcc gcc
+else
+    need x86_64-linux-gnu-gcc gcc-x86-64-linux-gnu
+    need qemu-x86_64 qemu-user
+fi
 
 # The pinned version is the one that the proofs were last checked with; another one may still pass the gate.
 pinned=$(sed -n 's/^Rattle kit: `\(.*\)`.*/\1/p' README.md)

@@ -7,7 +7,7 @@ pub const V: u8 = 0x80;
 /// AVP flag M: mandatory.
 pub const M: u8 = 0x40;
 
-/// "the table ... 256 bytes a record".
+/// "Then 256 bytes a record".
 pub const RECORD: usize = 256;
 
 /// One AVP with its right length and zero padding. `flags` stand as given; the vendor field is

@@ -43,7 +43,8 @@ pub fn used_twice(random: &mut Random, keys: &Keys, plan: &mut Plan) {
     }
 }
 
-/// A second IMEI in the one Terminal-Information: beside the first, or deeper, where it is none.
+/// A second IMEI in Terminal-Information: beside the first, or deeper, where it is none. Another
+/// second may stand before it or after.
 pub fn imei_twice(random: &mut Random, keys: &Keys, plan: &mut Plan) {
     let key = keys.named("Terminal-Information");
     if find(plan, key).is_none() {
@@ -59,8 +60,10 @@ pub fn imei_twice(random: &mut Random, keys: &Keys, plan: &mut Plan) {
         inner.extend(more);
         random.shuffle(inner);
     }
-    if random.chance(1, 4) {
-        used_twice(random, keys, plan);
+    match random.below(6) {
+        0 => plan.avps.push(terminal_information(random, keys)),
+        1 => used_twice(random, keys, plan),
+        _ => {}
     }
 }
 
@@ -85,11 +88,12 @@ pub fn unknown_twice(random: &mut Random, keys: &Keys, plan: &mut Plan) {
 
 /// One or two of an AVP that only another command uses: it has no effect here.
 pub fn used_by_others(random: &mut Random, keys: &Keys, plan: &mut Plan) {
-    let all = [Command::Ulr, Command::Pur, Command::Nor].map(|kind| [kind.required(), kind.optional()].concat()).concat();
+    let commands = [Command::Ulr, Command::Pur, Command::Nor];
+    let all = commands.map(|kind| [kind.required(), kind.optional()].concat()).concat();
     let mine = used(plan);
     let others: Vec<&str> = all.into_iter().filter(|name| !mine.contains(name)).collect();
     let name = random.pick(&others);
-    for _ in 0..random.within(1, 2) {
+    for _ in 0..random.pick(&[1, 2, 2]) {
         let piece = match name {
             "Terminal-Information" => terminal_information(random, keys),
             _ => sample(random, keys, keys.named(name), 0),
@@ -129,7 +133,7 @@ pub fn unknown_optional(random: &mut Random, keys: &Keys, plan: &mut Plan) {
 fn unknown_at_depth(random: &mut Random, keys: &Keys, plan: &mut Plan, mandatory: bool) {
     for _ in 0..random.pick(&[1, 1, 2]) {
         let piece = unknown(random, keys, mandatory);
-        let depth = random.pick(&[0, 0, 0, 1, 1, 2, 3, 5, 7, 8]);
+        let depth = random.pick(&[0, 0, 0, 0, 1, 1, 2, 3, 5, 7, 8]);
         for piece in nest(random, keys, depth, vec![piece]) {
             let deep = random.chance(1, 3);
             insert(random, &mut plan.avps, piece, deep);
@@ -182,7 +186,7 @@ pub fn values_odd(random: &mut Random, keys: &Keys, plan: &mut Plan) {
 
 fn value_odd(random: &mut Random, keys: &Keys, plan: &mut Plan) {
     let (name, data) = match random.below(5) {
-        0 => ("User-Name", odd_digits(random, &[0, 1, 5, 6, 15, 16, 17], &[6, 10, 15])),
+        0 => ("User-Name", odd_digits(random, &[0, 5, 5, 6, 15, 16, 16, 17], &[6, 10, 15])),
         1 => ("Origin-Host", odd_name(random)),
         2 => {
             let size = random.pick(&[0, 1, 2, 4, 6]);

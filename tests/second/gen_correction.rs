@@ -51,7 +51,15 @@ fn ordinary(random: &mut Random, records: &[Record]) -> Frame {
         None => (table::digits(random, 15), table::change(random)),
     };
     let kind = random.within(1, 4) as u8;
-    Frame { kind, imsi: imsi_field(&imsi), seen, value: value(random, kind), version: 1, length_field: None, kept: None }
+    Frame {
+        kind,
+        imsi: imsi_field(&imsi),
+        seen,
+        value: value(random, kind),
+        version: 1,
+        length_field: None,
+        kept: None,
+    }
 }
 
 /// "Kinds: 1 byte 20; 2 bytes 24–27; 3 byte 28 and 32–55 (25 bytes); 4 bytes 196–203."
@@ -101,8 +109,8 @@ fn wrong_length(random: &mut Random, frame: &Frame) -> u16 {
 /// A value one byte off, of another kind's size, or so long that two bytes cannot say it.
 fn wrong_for_kind(random: &mut Random, frame: &mut Frame) {
     let right = frame.value.len();
-    let size = if random.chance(1, 30) {
-        random.pick(&[65_511, 65_512, 65_536 + right])
+    let size = if random.chance(1, 12) {
+        random.pick(&[65_511, 65_512, 65_536 + right, 65_536 + right])
     } else {
         random.pick(&[0, 1, 4, 8, 25, 24, right.saturating_sub(1), right + 1])
     };
@@ -136,7 +144,7 @@ fn spoil_imsi(random: &mut Random, frame: &mut Frame) {
         frame.imsi = imsi_field(&table::digits(random, length));
         return;
     }
-    let place = random.below(16);
+    let place = if random.chance(1, 4) { 0 } else { random.below(16) };
     frame.imsi[place] = random.pick(&[0, 5, 16, b'0', b'9', 0xFF]);
 }
 

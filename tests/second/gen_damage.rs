@@ -5,9 +5,9 @@ use super::request::Plan;
 use super::{content, frame, visit};
 use crate::random::Random;
 
-type Damage = fn(&mut Random, &Keys, &mut Plan);
+pub type Damage = fn(&mut Random, &Keys, &mut Plan);
 
-const DAMAGES: [(usize, Damage); 37] = [
+const DAMAGES: [(usize, Damage); 39] = [
     // What the visit finds.
     (5, visit::length_wrong),
     (3, visit::length_under_header),
@@ -20,12 +20,12 @@ const DAMAGES: [(usize, Damage); 37] = [
     (2, visit::message_cut),
     (5, visit::nested),
     // AVPs too many, too few, in another order, or with other values.
-    (12, content::used_twice),
+    (14, content::used_twice),
     (2, content::imei_twice),
     (1, content::proxy_info_again),
     (1, content::unknown_twice),
-    (2, content::used_by_others),
-    (10, content::required_missing),
+    (5, content::used_by_others),
+    (13, content::required_missing),
     (1, content::reordered),
     (5, content::unknown_mandatory),
     (2, content::unknown_optional),
@@ -47,6 +47,8 @@ const DAMAGES: [(usize, Damage); 37] = [
     (2, frame::length_field_wrong),
     (2, frame::application_other),
     (2, frame::command_other),
+    (3, frame::header_several),
+    (3, frame::caller_several),
     (3, frame::bytes_changed),
 ];
 

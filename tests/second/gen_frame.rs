@@ -3,6 +3,7 @@
 
 use super::avp::{unknown, Body, Piece};
 use super::content::odd_name;
+use super::damage::Damage;
 use super::keys::Keys;
 use super::request::{proxy_info, Plan};
 use super::table;
@@ -49,8 +50,9 @@ pub fn size_odd(random: &mut Random, _: &Keys, plan: &mut Plan) {
 /// Lengthens one top-level AVP until the request has `size` bytes.
 fn fill(random: &mut Random, plan: &mut Plan, size: usize) {
     let missing = size.saturating_sub(plan.size());
-    let open: Vec<usize> =
-        (0..plan.avps.len()).filter(|place| matches!(&plan.avps[*place].body, Body::Data(data) if data.len() != 4)).collect();
+    // Data of 4 bytes is a number mostly, and would only be of a wrong size.
+    let open = |piece: &Piece| matches!(&piece.body, Body::Data(data) if data.len() != 4);
+    let open: Vec<usize> = (0..plan.avps.len()).filter(|place| open(&plan.avps[*place])).collect();
     if open.is_empty() {
         return;
     }
@@ -107,6 +109,30 @@ pub fn application_other(random: &mut Random, _: &Keys, plan: &mut Plan) {
 /// "command not 316, 321, 323": others of S6a, and numbers beside the three.
 pub fn command_other(random: &mut Random, _: &Keys, plan: &mut Plan) {
     plan.command = random.pick(&[317, 318, 319, 320, 322, 324, 315, 0, 257, 316 + 0x1_0000, 0xFF_FFFF]);
+}
+
+/// Several faults of the header at once: the first that applies is to be told.
+pub fn header_several(random: &mut Random, keys: &Keys, plan: &mut Plan) {
+    let of_flags = [flag_r_clear, flag_e_set, version_odd];
+    several(random, keys, plan, &of_flags);
+    let of_fields = [size_odd, length_field_wrong, application_other, command_other];
+    several(random, keys, plan, &of_fields);
+}
+
+/// Several faults of what the caller gives at once.
+pub fn caller_several(random: &mut Random, keys: &Keys, plan: &mut Plan) {
+    let of_buffers = [answer_short, cancel_short, table_damaged];
+    several(random, keys, plan, &of_buffers);
+    let of_others = [own_host_odd, own_realm_odd, size_odd, flag_r_clear];
+    several(random, keys, plan, &of_others);
+}
+
+fn several(random: &mut Random, keys: &Keys, plan: &mut Plan, faults: &[Damage]) {
+    for fault in faults {
+        if random.chance(1, 3) {
+            fault(random, keys, plan);
+        }
+    }
 }
 
 pub fn bytes_changed(random: &mut Random, _: &Keys, plan: &mut Plan) {

@@ -74,8 +74,9 @@ pub struct Keys {
     pub groups: Vec<Key>,
     /// Proxy-Info and Failed-AVP, which it does not enter.
     pub closed: Vec<Key>,
-    /// AVPs of 4 or 8 bytes.
-    pub fixed: Vec<Key>,
+    /// AVPs of 4 bytes, and of 8.
+    pub fours: Vec<Key>,
+    pub eights: Vec<Key>,
     names: BTreeMap<String, Key>,
     pairs: BTreeSet<(u32, u32)>,
 }
@@ -92,11 +93,12 @@ impl Keys {
                 }
             }
         }
-        let of = |kinds: &[Kind]| known.iter().filter(|key| kinds.contains(&key.kind)).copied().collect();
+        let of = |kind| known.iter().filter(|key| key.kind == kind).copied().collect();
         Keys {
-            groups: of(&[Kind::Group]),
-            closed: of(&[Kind::Closed]),
-            fixed: of(&[Kind::Four, Kind::Eight]),
+            groups: of(Kind::Group),
+            closed: of(Kind::Closed),
+            fours: of(Kind::Four),
+            eights: of(Kind::Eight),
             pairs: known.iter().map(|key| (key.vendor, key.code)).collect(),
             names,
             known,

@@ -53,7 +53,8 @@ pub fn near_digits(random: &mut Random, given: &str) -> String {
         1 if near.len() < 15 => near.push('0'),
         _ => {
             let place = random.below(near.len());
-            near.replace_range(place..place + 1, &digits(random, 1));
+            let other = if near[place..].starts_with('9') { "0" } else { "9" };
+            near.replace_range(place..place + 1, other);
         }
     }
     near
@@ -132,7 +133,7 @@ pub fn near_name(random: &mut Random, given: &[u8]) -> Vec<u8> {
         2 if near[0].is_ascii_alphabetic() => near[0] ^= 0x20,
         _ => {
             let place = random.below(near.len());
-            near[place] = random.within(0x21, 0x7E) as u8;
+            near[place] = if near[place] == 0x7E { 0x21 } else { near[place] + 1 };
         }
     }
     near
@@ -147,8 +148,7 @@ pub fn damaged(random: &mut Random) -> Vec<u8> {
         let spoiled = if rule < HEADER_RULES {
             spoil_header(random, &mut bytes, rule)
         } else {
-            let at = 8 + RECORD * random.below(count);
-            spoil_record(random, &mut bytes[at..at + RECORD], rule - HEADER_RULES)
+            spoil_one_record(random, &mut bytes, rule - HEADER_RULES)
         };
         if spoiled {
             return bytes;
@@ -164,7 +164,8 @@ fn spoil_header(random: &mut Random, bytes: &mut Vec<u8>, rule: usize) -> bool {
     match rule {
         0 => bytes.truncate(random.below(8)),
         1 => {
-            let wrong = (bytes.len() as u32).wrapping_add(random.pick(&[1, 0xFFFF_FFFF, 256, 0x0001_0000, 0x0100_0000]));
+            let wrong =
+                (bytes.len() as u32).wrapping_add(random.pick(&[1, 0xFFFF_FFFF, 256, 0x0001_0000, 0x0100_0000]));
             bytes[0..4].copy_from_slice(&wrong.to_be_bytes());
         }
         2 => bytes[4] = random.pick(&[0, 2, 3, 0x81, 0xFF]),
@@ -216,6 +217,18 @@ fn spoil_order(random: &mut Random, bytes: &mut Vec<u8>, count: usize) -> bool {
     true
 }
 
+/// One record, which mostly moves to where its bytes 0–15 belong, so that no other rule is broken.
+fn spoil_one_record(random: &mut Random, bytes: &mut Vec<u8>, rule: usize) -> bool {
+    let mut records: Vec<Vec<u8>> = bytes[8..].chunks(RECORD).map(<[u8]>::to_vec).collect();
+    let place = random.below(records.len());
+    let spoiled = spoil_record(random, &mut records[place], rule);
+    if random.chance(3, 4) {
+        records.sort_by(|a, b| a[0..16].cmp(&b[0..16]));
+    }
+    *bytes = table_of(&records);
+    spoiled
+}
+
 const RECORD_RULES: usize = 18;
 
 /// A field with a count, its room, the counts it may not have, and bytes it may not hold.
@@ -226,10 +239,10 @@ struct Counted {
     bytes: &'static [u8],
 }
 
-const IMSI: Counted = Counted { at: 0, room: 15, counts: &[0, 1, 5, 16, 17, 255], bytes: NO_DIGIT };
-const MME: Counted = Counted { at: 64, room: 64, counts: &[65, 66, 128, 255], bytes: NO_NAME_BYTE };
-const SGSN: Counted = Counted { at: 129, room: 64, counts: &[65, 66, 128, 255], bytes: NO_NAME_BYTE };
-const IMEI: Counted = Counted { at: 204, room: 15, counts: &[1, 13, 16, 17, 255], bytes: NO_DIGIT };
+const IMSI: Counted = Counted { at: 0, room: 15, counts: &[0, 1, 5, 5, 16, 16, 17, 255], bytes: NO_DIGIT };
+const MME: Counted = Counted { at: 64, room: 64, counts: &[65, 65, 66, 128, 255], bytes: NO_NAME_BYTE };
+const SGSN: Counted = Counted { at: 129, room: 64, counts: &[65, 65, 66, 128, 255], bytes: NO_NAME_BYTE };
+const IMEI: Counted = Counted { at: 204, room: 15, counts: &[1, 13, 13, 16, 16, 255], bytes: NO_DIGIT };
 const NO_DIGIT: &[u8] = &[0, 0x2F, 0x3A, 0x20, 0x41, 0xB5, 0xFF];
 const NO_NAME_BYTE: &[u8] = &[0, 0x0A, 0x20, 0x7F, 0x80, 0xA1, 0xFF];
 
@@ -258,13 +271,26 @@ fn spoil_record(random: &mut Random, record: &mut [u8], rule: usize) -> bool {
     true
 }
 
+/// A count that is not allowed, the bytes it covers and the end past them mostly in order.
+fn spoil_only_count(random: &mut Random, record: &mut [u8], field: &Counted) {
+    let count = random.pick(field.counts);
+    record[field.at] = count;
+    if random.chance(3, 4) {
+        for place in 1..=field.room {
+            record[field.at + place] = if place <= count as usize { b'7' } else { 0 };
+        }
+    }
+}
+
 /// The count, then a byte that it covers, then a byte past it.
 fn spoil_counted(random: &mut Random, record: &mut [u8], field: &Counted, part: usize) -> bool {
     let count = record[field.at] as usize;
     match part {
-        0 => record[field.at] = random.pick(field.counts),
+        0 => spoil_only_count(random, record, field),
         1 if count > 0 => record[field.at + random.within(1, count)] = random.pick(field.bytes),
-        2 if count < field.room => record[field.at + random.within(count + 1, field.room)] = random.pick(&[1, 0x30, 0x61, 0xFF]),
+        2 if count < field.room => {
+            record[field.at + random.within(count + 1, field.room)] = random.pick(&[1, 0x30, 0x61, 0xFF])
+        }
         _ => return false,
     }
     true

@@ -73,13 +73,13 @@ pub fn vendor_other(random: &mut Random, _: &Keys, plan: &mut Plan) {
 
 /// "Unsigned32, Integer32, Enumerated and Time carry 4 bytes; 64-bit types 8".
 pub fn size_wrong(random: &mut Random, keys: &Keys, plan: &mut Plan) {
-    let key = if random.chance(1, 3) {
-        keys.named(random.pick(&["Auth-Session-State", "RAT-Type", "ULR-Flags", "PUR-Flags", "NOR-Flags"]))
-    } else {
-        random.pick(&keys.fixed)
+    let key = match random.below(5) {
+        0 => keys.named(random.pick(&["Auth-Session-State", "RAT-Type", "ULR-Flags", "PUR-Flags", "NOR-Flags"])),
+        1 => random.pick(&keys.eights),
+        _ => random.pick(&keys.fours),
     };
     let mut piece = sample(random, keys, key, 0);
-    let size = random.pick(&[0, 1, 3, 5, 7, 8, 9, 12, 4]);
+    let size = random.pick(&[0, 1, 3, 4, 4, 5, 7, 8, 8, 9, 12]);
     piece.body = Body::Data(random.bytes(size));
     let same = plan.avps.iter().position(|other| other.has(key));
     match same {

@@ -6,7 +6,7 @@ ghost use Rattle.dictionary.specs.Rows.{keys, kinds, keyOf, kindIn, Lent
 use rows::KEYS;
 use rows::KINDS;
 
-pub mod rows;
+mod rows;
 
 // What an AVP's type asks of its data, and whether the reader goes inside.
 pub enum Kind {

@@ -1,0 +1,6 @@
+pub mod FieldLaws
+pub mod StepLaws
+pub mod MovedLaws
+pub mod FindLaws
+pub mod SecondLaws
+pub mod WriteLaws

@@ -1,0 +1,121 @@
+// AVPs looked for at the top level of a stretch: the first of a key, the first that is a second of a key of a set, and their data as a part
+// of the caller's own slice. A stretch that breaks off is looked through as far as it can be read.
+ghost use mathlib.Core.Path.{_≡_};
+ghost use mathlib.Core.Bool.{_&&_};
+ghost use mathlib.Core.List.{[]};
+ghost use Prim.Native.Nat.{_≤_};
+ghost use lib.Dec.{eqb};
+ghost use lib.ListN.{length};
+ghost use Rattle.dictionary.specs.Rows.{keyOf};
+ghost use Rattle.paper.specs.Reader.{avps};
+ghost use Rattle.paper.specs.Find.{firstOf, firstSecond, bodyFound, originHost};
+ghost use Rattle.avp.specs.Found.{indexOf, foundAt, Inside, dataOf};
+use crate::cursor::Avp;
+use crate::cursor::Cursor;
+use crate::cursor::Step;
+
+pub enum Found {
+    At(Avp),
+    Nothing,
+}
+
+fn has_key(a: Avp, vendor: u32, code: u32) -> bool
+    ensures { λ r. ⌜ r ≡ (eqb (a .vendor) vendor && eqb (a .code) code) ⌝ }
+{
+    (a.vendor == vendor) & (a.code == code)
+}
+
+// The first AVP of a key.
+pub fn find(s: &[u8], vendor: u32, code: u32) -> Found
+    ensures { λ r. ⌜ r ≡ foundAt (now (s .entry)) (firstOf vendor code (avps 0 (now (s .entry)))) ⌝ }
+{
+    let mut c = Cursor::new();
+    loop {
+        match c.next(s) {
+            Step::End => return Found::Nothing,
+            Step::Bad { at: _ } => return Found::Nothing,
+            Step::Item { avp, next } => {
+                if has_key(avp, vendor, code) {
+                    return Found::At(avp);
+                }
+                c = next;
+            }
+        }
+    }
+}
+
+// Vendor and code as one number.
+fn key_of(a: Avp) -> u64
+    ensures { λ r. ⌜ r ≡ keyOf (a .vendor) (a .code) ⌝ }
+{
+    (a.vendor as u64) * 4294967296 + (a.code as u64)
+}
+
+// The index of the first key that is `key`; the number of keys where there is none.
+fn index_of(keys: &[u64], key: u64) -> usize
+    ensures { λ r. ⌜ r ≡ indexOf key (now (keys .entry)) ⌝ }
+{
+    let mut i = 0;
+    while i < keys.len() {
+        if keys[i] == key {
+            return i;
+        }
+        i += 1;
+    }
+    i
+}
+
+// The first AVP that is a second of any of the keys, by one walk: `met` says by the index of a key that it was met.
+pub fn first_second(s: &[u8], keys: &[u64]) -> Found
+    requires { ⌜ length (now keys) ≤ 16 ⌝ }
+    ensures { λ r. ⌜ r ≡ foundAt (now (s .entry)) (firstSecond (now (keys .entry)) [] (avps 0 (now (s .entry)))) ⌝ }
+{
+    let mut met = [false; 16];
+    let mut c = Cursor::new();
+    loop {
+        match c.next(s) {
+            Step::End => return Found::Nothing,
+            Step::Bad { at: _ } => return Found::Nothing,
+            Step::Item { avp, next } => {
+                let i = index_of(keys, key_of(avp));
+                if i < keys.len() {
+                    if met[i] {
+                        return Found::At(avp);
+                    }
+                    met[i] = true;
+                }
+                c = next;
+            }
+        }
+    }
+}
+
+// The data of an AVP of `s`.
+pub fn data(s: &[u8], a: Avp) -> &[u8]
+    requires { ⌜ Inside (now s) a ⌝ }
+    ensures { λ r. ⌜ now r ≡ dataOf (now (s .entry)) a ⌝ }
+{
+    let start = a.start;
+    let end = a.end;
+    &s[start..end]
+}
+
+// The data of the first AVP of a key, and an empty part where there is none.
+pub fn found_data(s: &[u8], vendor: u32, code: u32) -> &[u8]
+    ensures { λ r. ⌜ now r ≡ bodyFound (firstOf vendor code (avps 0 (now (s .entry)))) ⌝ }
+{
+    match find(s, vendor, code) {
+        Found::At(a) => data(s, a),
+        Found::Nothing => &s[..0],
+    }
+}
+
+// The data of Origin-Host (264) in a message, as that stretch of the message itself; any bytes may be given.
+pub fn origin_host(m: &[u8]) -> &[u8]
+    ensures { λ r. ⌜ now r ≡ originHost (now (m .entry)) ⌝ }
+{
+    if m.len() < 20 {
+        return &m[..0];
+    }
+    found_data(&m[20..], 0, 264)
+}

@@ -1,0 +1,93 @@
+-- Each number of a correction is given exactly if its case is the first of 01's list that holds, and a refused correction alters nothing.
+-- Assumes nothing.
+use mathlib.Core.Path.{_≡_, refl, sym, _∙_}
+use mathlib.Core.Logic.{_≢_}
+use mathlib.Core.Bool.{Bool, true, false, cond, _&&_, not, false≢true}
+use mathlib.Core.Option.{Option, none, some}
+use mathlib.Core.List.{List, [], _∷_}
+use Prim.Native.Nat.{ℕ, _<_}
+use native.Mathlib.Omega.{arith}
+use lib.Dec.{ltb, eqb}
+use borrow.Author.Tests.{ltb-true}
+use Rattle.wire.proofs.ListLaws.{and-true-left, and-true-right}
+use Rattle.paper.specs.Table.{lookup, recordOf, changeOf}
+use Rattle.paper.specs.Correction.{frameImsi, frameSeen, Corrected, accepted, refused, onRecord, corrected}
+use Rattle.paper.specs.Clerks.{recordAtPlace, recordWith, isNone, Case, cases, First, first, later, noneHolds, FirstThatHolds}
+
+-- ---- over any list of cases
+
+-- the number of the first case that holds, 0 where none does
+firstNumber : List ℕ → List ℕ → List Case → ℕ
+firstNumber t f [] = 0
+firstNumber t f (c ∷ cs) = cond (c .holds t f) (c .number) (firstNumber t f cs)
+
+-- no case has the number 0
+positive : List Case → Bool
+positive [] = true
+positive (c ∷ cs) = ltb 0 (c .number) && positive cs
+
+first-number : {t f : List ℕ} {cs : List Case} {n : ℕ} → First t f cs n → firstNumber t f cs ≡ n
+unfolding firstNumber
+first-number (first h) = rw h
+first-number (later h r) = rw h (first-number r)
+
+number-first : (t f : List ℕ) (cs : List Case) (n : ℕ) → n ≢ 0 → firstNumber t f cs ≡ n → First t f cs n
+unfolding firstNumber
+number-first t f [] n z e = absurd (z (sym e))
+number-first t f (c ∷ cs) n z e = go (c .holds t f) refl (number-first t f cs n z)
+  where
+    go : (b : Bool) → c .holds t f ≡ b → (firstNumber t f cs ≡ n → First t f cs n) → First t f (c ∷ cs) n
+    go true h more = let k : c .number ≡ n = rw h at e in rw (sym k) (first h)
+    go false h more = let k : firstNumber t f cs ≡ n = rw h at e in later h (more k)
+
+none-number : (t f : List ℕ) (cs : List Case) → noneHolds t f cs ≡ true → firstNumber t f cs ≡ 0
+unfolding firstNumber noneHolds
+none-number t f [] e = refl
+none-number t f (c ∷ cs) e = go (c .holds t f) refl (none-number t f cs)
+  where
+    go : (b : Bool) → c .holds t f ≡ b → (noneHolds t f cs ≡ true → firstNumber t f cs ≡ 0) → cond (c .holds t f) (c .number) (firstNumber t f cs) ≡ 0
+    go true h more = let k : false ≡ true = rw h at e in absurd (false≢true k)
+    go false h more = let k : noneHolds t f cs ≡ true = rw h at e in rw h (more k)
+
+number-none : (t f : List ℕ) (cs : List Case) → positive cs ≡ true → firstNumber t f cs ≡ 0 → noneHolds t f cs ≡ true
+unfolding firstNumber noneHolds positive
+number-none t f [] p e = refl
+number-none t f (c ∷ cs) p e = go (c .holds t f) refl (number-none t f cs (and-true-right (ltb 0 (c .number)) (positive cs) p))
+  where
+    go : (b : Bool) → c .holds t f ≡ b → (firstNumber t f cs ≡ 0 → noneHolds t f cs ≡ true) → not (c .holds t f) && noneHolds t f cs ≡ true
+    go true h more =
+        let k : c .number ≡ 0 = rw h at e in
+        let q : 0 < c .number = ltb-true 0 (c .number) (and-true-left (ltb 0 (c .number)) (positive cs) p) in
+        absurd (omega arith)
+    go false h more = let k : firstNumber t f cs ≡ 0 = rw h at e in rw h (more k)
+
+-- ---- 01's list
+
+-- what a chain of refusals comes to: its number, and the table as it came
+cond-number : (b : Bool) (n : ℕ) (t : List ℕ) (x : Corrected) → (cond b (refused n t) x) .number ≡ cond b n (x .number)
+unfolding refused
+cond-number true n t x = refl
+cond-number false n t x = refl
+
+on-record-number : (o : Option ℕ) (f t : List ℕ)
+    → onRecord o f t .number ≡ cond (isNone o) 16 (cond (not (eqb (changeOf (recordAtPlace o t)) (frameSeen f))) 17 0)
+unfolding onRecord recordAtPlace refused accepted
+on-record-number none f t = refl
+on-record-number (some i) f t = go (eqb (changeOf (recordOf t i)) (frameSeen f))
+  where
+    go : (b : Bool) → (cond b (accepted i f t) (refused 17 t)) .number ≡ cond (not b) 17 0
+    go true = refl
+    go false = refl
+
+corrected-number : (t f : List ℕ) → corrected t f .number ≡ firstNumber t f cases
+unfolding corrected firstNumber cases recordWith
+corrected-number t f =
+    simp cond-number (rw (on-record-number (lookup (frameImsi f) t) f t))
+
+pub corrected-cases : (t f : List ℕ) → FirstThatHolds t f (corrected t f .number)
+unfolding positive cases
+corrected-cases t f =
+    record {
+      refused = λ m z. ((λ e. number-first t f cases m z (sym (corrected-number t f) ∙ e)), (λ h. corrected-number t f ∙ first-number h));
+      success = ((λ e. number-none t f cases refl (sym (corrected-number t f) ∙ e)), (λ h. corrected-number t f ∙ none-number t f cases h));
+    }

@@ -1,0 +1,162 @@
+-- What clerks may rely on, over 01's section "Corrections": the cases of refusal in their order, what an accepted correction alters,
+-- and several clerks who correct one table in turn.
+-- Assumes nothing.
+use mathlib.Core.Path.{_≡_}
+use mathlib.Core.Logic.{_↔_, _≢_}
+use mathlib.Core.Bool.{Bool, true, false, cond, _&&_, _||_, not}
+use mathlib.Core.Option.{Option, none, some}
+use mathlib.Core.List.{List, [], _∷_, _++_}
+use Prim.Native.Nat.{ℕ, suc, _+_}
+use lib.ListN.{length, take, getD}
+use lib.Dec.{leb, ltb, eqb}
+use Rattle.wire.specs.Number.{numAt}
+use Rattle.wire.specs.Put.{part}
+use Rattle.wire.specs.Stretch.{same}
+use Rattle.paper.specs.Layout.{tableHeader, changeAt, subscriptionAt, restrictionAt, plmnCountAt, plmnsAt, ambrAt}
+use Rattle.paper.specs.Table.{valid, lookup, recordOf, changeOf}
+use Rattle.paper.specs.Correction.{frameHead, frameVersion, frameKind, frameImsi, frameSeen, frameValue, valueSize, valueRight, nextChange, corrected}
+
+-- ---- the cases of refusal
+
+-- the record of a table that has the IMSI; no bytes where none has it
+unfoldable pub recordAtPlace : Option ℕ → List ℕ → List ℕ
+recordAtPlace none t = []
+recordAtPlace (some i) t = recordOf t i
+
+unfoldable pub recordWith : List ℕ → List ℕ → List ℕ
+recordWith imsi t = recordAtPlace (lookup imsi t) t
+
+abbrev pub isNone : Option ℕ → Bool
+isNone none = true
+isNone (some i) = false
+
+-- a number of 01's list, and when its case holds of a table and a frame
+pub record Case : Type 0 where
+  pub number : ℕ
+  pub holds : List ℕ → List ℕ → Bool
+
+-- "4 table; 11 under 24 bytes or length field wrong; 12 version; 13 kind; 14 length wrong for the kind; 15 value not valid in a table;
+-- 16 no such IMSI; 17 change number differs."
+unfoldable pub cases : List Case
+cases =
+    record { number = 4; holds = λ t f. not (valid t) } ∷
+    record { number = 11; holds = λ t f. ltb (length f) frameHead || not (eqb (numAt 2 f 0) (length f)) } ∷
+    record { number = 12; holds = λ t f. not (eqb (getD f 2 0) frameVersion) } ∷
+    record { number = 13; holds = λ t f. eqb (valueSize (frameKind f)) 0 } ∷
+    record { number = 14; holds = λ t f. not (eqb (length f) (frameHead + valueSize (frameKind f))) } ∷
+    record { number = 15; holds = λ t f. not (valueRight (frameKind f) (frameValue f)) } ∷
+    record { number = 16; holds = λ t f. isNone (lookup (frameImsi f) t) } ∷
+    record { number = 17; holds = λ t f. not (eqb (changeOf (recordWith (frameImsi f) t)) (frameSeen f)) } ∷
+    []
+
+-- `First t f cs n`: of the cases `cs` the first that holds of the table and the frame is the one numbered `n`
+pub data First (t f : List ℕ) : List Case → ℕ → Type 0 where
+  first : {c : Case} {cs : List Case} → c .holds t f ≡ true → First t f (c ∷ cs) (c .number)
+  later : {c : Case} {cs : List Case} {n : ℕ} → c .holds t f ≡ false → First t f cs n → First t f (c ∷ cs) n
+
+-- none of the cases holds
+unfoldable pub noneHolds : List ℕ → List ℕ → List Case → Bool
+noneHolds t f [] = true
+noneHolds t f (c ∷ cs) = not (c .holds t f) && noneHolds t f cs
+
+-- the number `n` is given as 01 says: a refusal's exactly if its case is the first of the list that holds, 0 exactly if none does
+pub record FirstThatHolds (t f : List ℕ) (n : ℕ) : Type 0 where
+  pub refused : (m : ℕ) → m ≢ 0 → (n ≡ m) ↔ First t f cases m
+  pub success : (n ≡ 0) ↔ (noneHolds t f cases ≡ true)
+
+-- ---- what an accepted correction alters
+
+-- bytes of a record: the first, and how many
+pub record Field : Type 0 where
+  pub at : ℕ
+  pub size : ℕ
+
+abbrev pub field : ℕ → ℕ → Field
+field at size = record { at = at; size = size }
+
+abbrev pub changeField : Field
+changeField = field changeAt 4
+
+-- "Kinds: 1 byte 20; 2 bytes 24–27; 3 byte 28 and 32–55 (25 bytes); 4 bytes 196–203"
+unfoldable pub fieldsOfKind : ℕ → List Field
+fieldsOfKind kind =
+    cond (eqb kind 1) (field subscriptionAt 1 ∷ [])
+    (cond (eqb kind 2) (field restrictionAt 4 ∷ [])
+    (cond (eqb kind 3) (field plmnCountAt 1 ∷ field plmnsAt 24 ∷ [])
+    (cond (eqb kind 4) (field ambrAt 8 ∷ []) [])))
+
+-- what a record holds in these fields
+unfoldable pub heldIn : List Field → List ℕ → List ℕ
+heldIn [] r = []
+heldIn (x ∷ xs) r = part (x .at) (x .size) r ++ heldIn xs r
+
+-- byte `at` of a record belongs to one of these fields
+unfoldable pub liesIn : List Field → ℕ → Bool
+liesIn [] at = false
+liesIn (x ∷ xs) at = (leb (x .at) at && ltb at (x .at + x .size)) || liesIn xs at
+
+-- `Alters t f u i`: the table `t` with the frame `f` accepted is `u`, and `i` is the record that the frame names
+pub record Alters (t f u : List ℕ) (i : ℕ) : Type 0 where
+  pub named : lookup (frameImsi f) t ≡ some i
+  pub seen : changeOf (recordOf t i) ≡ frameSeen f
+  pub counted : changeOf (recordOf u i) ≡ nextChange (frameSeen f)
+  pub stored : heldIn (fieldsOfKind (frameKind f)) (recordOf u i) ≡ frameValue f
+  -- every other byte of this record, every other record, the header and the length are as they were
+  pub other-bytes : (at : ℕ) → liesIn (changeField ∷ fieldsOfKind (frameKind f)) at ≡ false → getD (recordOf u i) at 0 ≡ getD (recordOf t i) at 0
+  pub other-records : (j : ℕ) → j ≢ i → recordOf u j ≡ recordOf t j
+  pub header : take tableHeader u ≡ take tableHeader t
+  pub size : length u ≡ length t
+  -- and the table is valid again
+  pub right : valid u ≡ true
+
+-- ---- several clerks
+
+-- corrections one after another: the table after them
+unfoldable pub run : List ℕ → List (List ℕ) → List ℕ
+run t [] = t
+run t (f ∷ fs) = run (corrected t f .table) fs
+
+-- the correction is accepted, and it is one of the record with this IMSI
+unfoldable pub accepts : List ℕ → List ℕ → List ℕ → Bool
+accepts imsi t f = eqb (corrected t f .number) 0 && same (frameImsi f) imsi
+
+-- how many of the corrections are accepted and are of the record with this IMSI
+unfoldable pub acceptedOf : List ℕ → List ℕ → List (List ℕ) → ℕ
+acceptedOf imsi t [] = 0
+acceptedOf imsi t (f ∷ fs) = cond (accepts imsi t f) 1 0 + acceptedOf imsi (corrected t f .table) fs
+
+-- What a record goes through. `A` is what is looked at of it, the change number with it; whatever else happens to a table may stand between.
+-- `Course change a n b`: from `a` it came to `b` by `n` accepted corrections, of which each made the change number the next one,
+-- and by other steps, which leave what is looked at as it is.
+pub data Course {A : Type 0} (change : A → ℕ) : A → ℕ → A → Type 0 where
+  stays : {a : A} → Course change a 0 a
+  counts : {a b c : A} {n : ℕ} → change b ≡ nextChange (change a) → Course change b n c → Course change a (suc n) c
+  passes : {a b c : A} {n : ℕ} → b ≡ a → Course change b n c → Course change a n c
+
+-- what corrections alone alter of a record: its change number, and "bytes 20, 24–27, 28, 32–55, 196–203"
+pub record Standing : Type 0 where
+  pub change : ℕ
+  pub fields : List ℕ
+
+unfoldable pub standingOf : List ℕ → Standing
+standingOf r =
+    record {
+      change = changeOf r;
+      fields = heldIn (fieldsOfKind 1) r ++ (heldIn (fieldsOfKind 2) r ++ (heldIn (fieldsOfKind 3) r ++ heldIn (fieldsOfKind 4) r));
+    }
+
+-- the change number that the record with this IMSI has after these corrections was reached by the last of them, or stood at the start
+pub data Reached (imsi : List ℕ) : List ℕ → List (List ℕ) → Type 0 where
+  at-start : {t : List ℕ} → Reached imsi t []
+  by-last : {t f : List ℕ} → accepts imsi t f ≡ true → Reached imsi t (f ∷ [])
+  by-later : {t f g : List ℕ} {gs : List (List ℕ)} → Reached imsi (corrected t f .table) (g ∷ gs) → Reached imsi t (f ∷ g ∷ gs)
+
+-- the moment in a run of corrections at which the change number of the record with this IMSI was last reached:
+-- no correction of it was accepted since, and the record is byte for byte what it was then
+pub record LastReached (imsi t : List ℕ) (fs : List (List ℕ)) : Type 0 where
+  pub before : List (List ℕ)
+  pub since : List (List ℕ)
+  pub split : fs ≡ before ++ since
+  pub reached : Reached imsi t before
+  pub none-since : acceptedOf imsi (run t before) since ≡ 0
+  pub same-record : recordWith imsi (run t fs) ≡ recordWith imsi (run t before)

@@ -1,0 +1,14 @@
+pub mod Answer
+pub mod Avp
+pub mod Clerks
+pub mod Correction
+pub mod Fields
+pub mod Find
+pub mod Layout
+pub mod Outcome
+pub mod Procedures
+pub mod Profile
+pub mod Reader
+pub mod Request
+pub mod Table
+pub mod Widened

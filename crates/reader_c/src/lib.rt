@@ -1,0 +1,26 @@
+// The message reader for the tests in C: the answer of the visit as one number. It is no part of the product.
+ghost use mathlib.Core.Path.{_≡_};
+ghost use Rattle.reader.specs.Message.{messageOf};
+ghost use Rattle.reader_c.specs.Packed.{packed, pack};
+use paper::Visit;
+use reader::message::read_message;
+
+fn packed_of(code: u32, at: usize, end: usize) -> u64
+    ensures { λ r. ⌜ r ≡ pack code at end ⌝ }
+{
+    ((code % 65536) as u64) * 281474976710656
+        + ((end % 16777216) as u64) * 16777216
+        + (at % 16777216) as u64
+}
+
+#[no_mangle]
+pub extern "C" fn dymosaw_read_visit(m: &[u8]) -> u64
+    ensures { λ r. ⌜ r ≡ packed (messageOf (now (m .entry)) .visit) ⌝ }
+{
+    let told = read_message(m).visit;
+    match told {
+        Visit::Clean => 0,
+        Visit::Fault { code, at, end } => packed_of(code, at, end),
+        Visit::Unsupported { at, end } => packed_of(5001, at, end),
+    }
+}
