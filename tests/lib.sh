@@ -42,11 +42,17 @@ unit_tests_of_second() {
     rustc -O --edition 2021 -D warnings --test tests/second/main.rs -o build/second_tests && build/second_tests --quiet
 }
 
-# The named cases through a program that speaks the case protocol.
+# A file of named cases through a program that speaks the case protocol, and all of them.
+named_file() { # FILE PROGRAM..
+    local file=$1
+    shift
+    build/second named "$file" | "$@" | build/second expected "$file"
+}
+
 named_cases() { # PROGRAM..
     local file
     for file in tests/cases/*.txt; do
-        build/second named "$file" | "$@" | build/second expected "$file" || return 1
+        named_file "$file" "$@" || return 1
     done
 }
 
@@ -74,4 +80,13 @@ reader_compare() { # SEED COUNT
     build/second read <"$out/messages" >"$out/second" || return 1
     "${x86_run[@]}" "$out/harness" <"$out/messages" >"$out/proved" || return 1
     python3 tests/reader_compare.py "$out/messages" "$out/proved" "$out/second"
+}
+
+# Generated cases through the C library and through the second program, by pipes; the results have to be the same bytes, and some.
+compare_cases() { # MAKER..
+    local ours theirs
+    ours=$(set -o pipefail; "$@" | "${x86_run[@]}" build/harness | sha256sum) || return 1
+    theirs=$(set -o pipefail; "$@" | build/second cases | sha256sum) || return 1
+    echo "the library: $ours; the second program: $theirs"
+    [ "$ours" = "$theirs" ] && [ "$ours" != "$(sha256sum </dev/null)" ]
 }

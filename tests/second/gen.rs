@@ -37,6 +37,15 @@ pub fn run(dictionary: &Dictionary, seed: u64, count: u64, out: &mut impl Write)
     Ok(())
 }
 
+/// `second corrections SEED COUNT`: corrections alone.
+pub fn corrections(seed: u64, count: u64, out: &mut impl Write) -> io::Result<()> {
+    let mut random = Random::new(seed);
+    for _ in 0..count {
+        write_case(out, &correction::case(&mut random))?;
+    }
+    Ok(())
+}
+
 fn case(random: &mut Random, keys: &Keys) -> Case {
     if random.chance(1, 5) {
         return correction::case(random);

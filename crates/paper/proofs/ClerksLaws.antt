@@ -18,7 +18,8 @@ use Rattle.paper.specs.Table.{recordOf, imsiOf, changeOf, lookup}
 use Rattle.paper.specs.Correction.{frameImsi, frameSeen, nextChange, corrected}
 use Rattle.paper.specs.Clerks.{recordAtPlace, recordWith, run, accepts, acceptedOf, Course, stays, counts, passes, Standing, standingOf, Reached, at-start, by-last, by-later, LastReached}
 use Rattle.paper.proofs.TableLaws.{lookup-some}
-use Rattle.paper.proofs.CorrectionLaws.{Passed, passed, passed-alters, corrected-lookup, refused-alters-nothing}
+use Rattle.paper.proofs.CorrectionCases.{refused-alters-nothing}
+use Rattle.paper.proofs.CorrectionLaws.{Passed, passed, passed-alters, corrected-lookup}
 
 -- ---- what a record goes through
 

@@ -2,16 +2,18 @@
 -- Assumes nothing.
 use mathlib.Core.Path.{_≡_, refl, sym, _∙_}
 use mathlib.Core.Logic.{_≢_}
-use mathlib.Core.Bool.{Bool, true, false, cond, _&&_, not, false≢true}
+use mathlib.Core.Bool.{Bool, true, false, cond, _&&_, _||_, not, false≢true}
 use mathlib.Core.Option.{Option, none, some}
 use mathlib.Core.List.{List, [], _∷_}
-use Prim.Native.Nat.{ℕ, _<_}
+use Prim.Native.Nat.{ℕ, _+_, _<_}
 use native.Mathlib.Omega.{arith}
+use lib.ListN.{length, getD}
 use lib.Dec.{ltb, eqb}
 use borrow.Author.Tests.{ltb-true}
+use Rattle.wire.specs.Number.{numAt}
 use Rattle.wire.proofs.ListLaws.{and-true-left, and-true-right}
-use Rattle.paper.specs.Table.{lookup, recordOf, changeOf}
-use Rattle.paper.specs.Correction.{frameImsi, frameSeen, Corrected, accepted, refused, onRecord, corrected}
+use Rattle.paper.specs.Table.{valid, lookup, recordOf, changeOf}
+use Rattle.paper.specs.Correction.{frameHead, frameVersion, frameKind, frameImsi, frameSeen, frameValue, valueSize, valueRight, Corrected, accepted, refused, onRecord, corrected}
 use Rattle.paper.specs.Clerks.{recordAtPlace, recordWith, isNone, Case, cases, First, first, later, noneHolds, FirstThatHolds}
 
 -- ---- over any list of cases
@@ -84,10 +86,38 @@ unfolding corrected firstNumber cases recordWith
 corrected-number t f =
     simp cond-number (rw (on-record-number (lookup (frameImsi f) t) f t))
 
-pub corrected-cases : (t f : List ℕ) → FirstThatHolds t f (corrected t f .number)
+-- a chain of refusals leaves the table as it came where what follows it does
+refused-or : (b : Bool) (m : ℕ) (t : List ℕ) (x : Corrected) → (x .number ≢ 0 → x .table ≡ t) → (cond b (refused m t) x) .number ≢ 0 → (cond b (refused m t) x) .table ≡ t
+unfolding refused
+refused-or true m t x h z = refl
+refused-or false m t x h z = h z
+
+refused-on-record : (o : Option ℕ) (f t : List ℕ) → onRecord o f t .number ≢ 0 → onRecord o f t .table ≡ t
+unfolding onRecord refused accepted
+refused-on-record none f t z = refl
+refused-on-record (some j) f t z = go (eqb (changeOf (recordOf t j)) (frameSeen f)) z
+  where
+    go : (b : Bool) → (cond b (accepted j f t) (refused 17 t)) .number ≢ 0 → (cond b (accepted j f t) (refused 17 t)) .table ≡ t
+    go true y = absurd (y refl)
+    go false y = refl
+
+-- a refused correction alters nothing
+pub refused-alters-nothing : (t f : List ℕ) → corrected t f .number ≢ 0 → corrected t f .table ≡ t
+unfolding corrected
+refused-alters-nothing t f =
+    refused-or (not (valid t)) 4 t _
+    (refused-or (ltb (length f) frameHead || not (eqb (numAt 2 f 0) (length f))) 11 t _
+    (refused-or (not (eqb (getD f 2 0) frameVersion)) 12 t _
+    (refused-or (eqb (valueSize (frameKind f)) 0) 13 t _
+    (refused-or (not (eqb (length f) (frameHead + valueSize (frameKind f)))) 14 t _
+    (refused-or (not (valueRight (frameKind f) (frameValue f))) 15 t _ (refused-on-record (lookup (frameImsi f) t) f t))))))
+
+-- each number in its case and in no other, and nothing changed where it is a refusal's
+pub corrected-cases : (t f : List ℕ) → FirstThatHolds t f (corrected t f)
 unfolding positive cases
 corrected-cases t f =
     record {
       refused = λ m z. ((λ e. number-first t f cases m z (sym (corrected-number t f) ∙ e)), (λ h. corrected-number t f ∙ first-number h));
       success = ((λ e. number-none t f cases refl (sym (corrected-number t f) ∙ e)), (λ h. corrected-number t f ∙ none-number t f cases h));
+      unchanged = refused-alters-nothing t f;
     }

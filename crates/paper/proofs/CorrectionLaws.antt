@@ -2,15 +2,14 @@
 -- Assumes nothing.
 use mathlib.Core.Path.{_≡_, refl, sym, ap, _∙_, subst}
 use mathlib.Core.Logic.{_⊎_, inl, inr, _≢_}
-use mathlib.Core.Bool.{Bool, true, false, cond, _&&_, _||_, not, true≢false}
+use mathlib.Core.Bool.{Bool, true, false, _&&_, _||_, not, true≢false}
 use mathlib.Core.Option.{Option, none, some}
 use mathlib.Core.List.{List, _∷_}
 use Prim.Native.Nat.{ℕ, _+_, _^_, _≤_, _<_}
-use native.Mathlib.Nat.{mod-lt}
 use native.Mathlib.Omega.{arith}
 use lib.ListN.{length, take, drop, getD, length-drop}
 use lib.Seq.{take-length}
-use lib.Dec.{leb, ltb, eqb, lit<}
+use lib.Dec.{leb, ltb, eqb}
 use borrow.Author.Tests.{eqb-true, eqb-false, not-false, not-true}
 use Rattle.wire.specs.Number.{be, numAt}
 use Rattle.wire.specs.Put.{put}
@@ -18,12 +17,12 @@ use Rattle.wire.proofs.ListLaws.{and-true-left, and-true-right}
 use Rattle.wire.proofs.PutLaws.{put-before, put-after, read-back}
 use Rattle.paper.specs.Layout.{recordSize, changeAt, subscriptionAt, restrictionAt, plmnCountAt, plmnsAt, ambrAt}
 use Rattle.paper.specs.Table.{recordRight, recordAt, recordOf, imsiOf, changeOf, valid, lookup}
-use Rattle.paper.specs.Correction.{frameHead, frameVersion, frameKind, frameImsi, frameSeen, frameValue, valueSize, valueRight, storeValue, nextChange, Corrected, accepted, refused, onRecord, corrected}
+use Rattle.paper.specs.Correction.{frameHead, frameVersion, frameKind, frameImsi, frameSeen, frameValue, valueSize, valueRight, storeValue, nextChange, accepted, refused, onRecord, corrected}
 use Rattle.paper.specs.Clerks.{recordAtPlace, recordWith, isNone, cases, First, noneHolds, changeField, fieldsOfKind, heldIn, liesIn, Alters}
 use Rattle.paper.proofs.TableLaws.{Valid, valid-parts, valid-whole, length-record, lookup-some, lookup-inside, Replaced, replaced-then, replaced-store, replaced-valid, replaced-lookup, imsi-put}
 use Rattle.paper.proofs.FieldLaws.{free-right, change-free}
 use Rattle.paper.proofs.StoreLaws.{Corrects, subscription, restriction, plmns, ambr, corrects, withValue, replaced-value, value-right, imsi-value}
-use Rattle.paper.proofs.CorrectionCases.{corrected-cases}
+use Rattle.paper.proofs.CorrectionCases.{corrected-cases, refused-alters-nothing}
 use Rattle.paper.proofs.CorrectionFields.{putFields, sizeOf, Ascend, length-putFields, held-putFields, byte-putFields, held-behind, or-false-left, or-false-right, outside}
 
 -- ---- kinds
@@ -166,7 +165,7 @@ passed t f e =
 
 next-small : (n : ℕ) → nextChange n < 2 ^ 32
 unfolding nextChange
-next-small n = mod-lt (n + 1) (lit< tt)
+next-small n = omega arith
 
 -- the table after an accepted frame
 module _ (t f : List ℕ) (p : Passed t f) where
@@ -233,32 +232,6 @@ module _ (t f : List ℕ) (p : Passed t f) where
 -- an accepted correction alters the record that it names as 01 says, and nothing else
 pub accepted-alters : (t f : List ℕ) → corrected t f .number ≡ 0 → (i : ℕ) × Alters t f (corrected t f .table) i
 accepted-alters t f e = let p = passed t f e in (p .place, passed-alters t f p)
-
--- a chain of refusals leaves the table as it came where what follows it does
-refused-or : (b : Bool) (m : ℕ) (t : List ℕ) (x : Corrected) → (x .number ≢ 0 → x .table ≡ t) → (cond b (refused m t) x) .number ≢ 0 → (cond b (refused m t) x) .table ≡ t
-unfolding refused
-refused-or true m t x h z = refl
-refused-or false m t x h z = h z
-
-refused-on-record : (o : Option ℕ) (f t : List ℕ) → onRecord o f t .number ≢ 0 → onRecord o f t .table ≡ t
-unfolding onRecord refused accepted
-refused-on-record none f t z = refl
-refused-on-record (some j) f t z = go (eqb (changeOf (recordOf t j)) (frameSeen f)) z
-  where
-    go : (b : Bool) → (cond b (accepted j f t) (refused 17 t)) .number ≢ 0 → (cond b (accepted j f t) (refused 17 t)) .table ≡ t
-    go true y = absurd (y refl)
-    go false y = refl
-
--- a refused correction alters nothing
-pub refused-alters-nothing : (t f : List ℕ) → corrected t f .number ≢ 0 → corrected t f .table ≡ t
-unfolding corrected
-refused-alters-nothing t f =
-    refused-or (not (valid t)) 4 t _
-    (refused-or (ltb (length f) frameHead || not (eqb (numAt 2 f 0) (length f))) 11 t _
-    (refused-or (not (eqb (getD f 2 0) frameVersion)) 12 t _
-    (refused-or (eqb (valueSize (frameKind f)) 0) 13 t _
-    (refused-or (not (eqb (length f) (frameHead + valueSize (frameKind f)))) 14 t _
-    (refused-or (not (valueRight (frameKind f) (frameValue f))) 15 t _ (refused-on-record (lookup (frameImsi f) t) f t))))))
 
 -- the first case that holds says what a correction comes to
 pub first-refused : (t f : List ℕ) (n : ℕ) → n ≢ 0 → First t f cases n → corrected t f ≡ refused n t

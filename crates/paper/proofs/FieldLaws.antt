@@ -1,28 +1,25 @@
 -- Each field of a record with another value: the record stays right. Free fields, the values of a correction, a node, its purge bit, the IMEI.
 -- Assumes nothing.
-use mathlib.Core.Path.{_≡_, refl, sym, ap, _∙_, subst}
-use mathlib.Core.Bool.{Bool, true, false, cond, _&&_, _||_, not, or-true}
+use mathlib.Core.Path.{_≡_, refl, sym, ap, _∙_}
+use mathlib.Core.Bool.{Bool, true, false, _&&_, _||_, not, or-true}
 use mathlib.Core.List.{List, [], _∷_, _++_}
 use Prim.Native.Nat.{ℕ, zero, suc, _+_, _-_, _*_, _/_, _%_, _^_, _≤_, _<_}
 use native.Mathlib.Nat.{add-zero}
 use native.Mathlib.Numerals.{one-add}
 use native.Mathlib.Omega.{arith}
 use lib.Dec.{leb, ltb, eqb}
-use lib.ListN.{length, take, drop, getD, replicate, length-append, length-take, length-drop, length-replicate}
+use lib.ListN.{length, take, drop, getD, replicate, length-append, length-drop, length-replicate}
 use lib.Seq.{take-at, drop-at, drop-drop, getD-take, length-take-le}
 use borrow.Author.Tests.{le-leb, lt-ltb, leb-true, ltb-true}
-use Rattle.wire.specs.Number.{be}
 use Rattle.wire.specs.Put.{part, put}
-use Rattle.wire.specs.Stretch.{allIn, nameBytes, digits, zeros}
+use Rattle.wire.specs.Stretch.{nameBytes, digits, zeros}
 use Rattle.wire.proofs.ListLaws.{and-true-left, and-true-right, and-true-both, getD-part, part-part}
 use Rattle.wire.proofs.PutLaws.{length-put, part-put, put-before, put-after}
 use Rattle.wire.proofs.StretchLaws.{allIn-take, allIn-replicate}
-use Rattle.paper.specs.Layout.{recordSize, imsiAt, imsiSize, changeAt, subscriptionAt, restrictionAt, plmnCountAt, plmnsAt, plmnSize, mostPlmns, purgedAt, mmeAt, sgsnAt, mostName, ambrAt, imeiAt, mostDigits}
-use Rattle.paper.specs.Table.{Rule, counted, imsiRight, twoBits, plmnCountRight, plmnsRight, bitAt, nameRight, purgedRight, imeiRight, rules, allHold, recordRight, recordAt, recordOf, countOf, imsiOf, valid, Slot, mme, sgsn, store}
-use Rattle.paper.specs.Fields.{filled, withBit, withoutBit, purgedOf, storeNode, storePurged, storeImei}
-use Rattle.paper.specs.Correction.{valueSize, valueRight, storeValue}
-use Rattle.paper.proofs.RecordLaws.{Range, range, apart, apartFrom, allApart, DifferIn, differ-put, differ-then, counted-own, Watched, watched, touched, right-again, imei-count, name-count}
-use Rattle.paper.proofs.TableLaws.{Valid, valid-parts, valid-whole, record-inside, length-record, Replaced, replaced-then, replaced-store, replaced-valid, imsi-put, store-valid}
+use Rattle.paper.specs.Layout.{recordSize, imsiSize, changeAt, subscriptionAt, restrictionAt, plmnCountAt, plmnsAt, plmnSize, mostPlmns, purgedAt, mmeAt, sgsnAt, mostName, ambrAt, imeiAt, mostDigits}
+use Rattle.paper.specs.Table.{Rule, counted, imsiRight, twoBits, plmnCountRight, plmnsRight, bitAt, nameRight, purgedRight, imeiRight, rules, allHold, recordRight, Slot, mme, sgsn}
+use Rattle.paper.specs.Fields.{filled, withBit, withoutBit}
+use Rattle.paper.proofs.RecordLaws.{range, apart, apartFrom, allApart, differ-put, differ-then, counted-own, watched, touched, right-again, imei-count, name-count}
 
 -- ---- what a right record's fields are
 

@@ -1,8 +1,8 @@
 mod CorrectionExamples
-mod TableExamples
 pub mod AvpLaws
 pub mod AvpsLaws
 pub mod ClerksLaws
+pub mod ClosedTables
 pub mod CorrectionCases
 pub mod CorrectionFields
 pub mod CorrectionLaws

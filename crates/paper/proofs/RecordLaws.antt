@@ -1,21 +1,21 @@
 -- A record with other bytes in some places is right where the rules that look there hold: each rule looks at a few ranges of the record alone.
 -- Assumes nothing.
-use mathlib.Core.Path.{_≡_, refl, sym, ap, _∙_, subst}
-use mathlib.Core.Bool.{Bool, true, false, cond, _&&_, _||_, not}
+use mathlib.Core.Path.{_≡_, refl, sym, ap, _∙_}
+use mathlib.Core.Bool.{Bool, true, false, cond, _&&_, _||_}
 use mathlib.Core.Logic.{_⊎_, inl, inr, ⊎-elim}
-use mathlib.Core.List.{List, [], _∷_, _++_, map}
-use Prim.Native.Nat.{ℕ, zero, suc, _+_, _-_, _*_, _/_, _%_, _^_, _≤_, _<_}
+use mathlib.Core.List.{List, [], _∷_, map}
+use Prim.Native.Nat.{ℕ, _+_, _-_, _*_, _≤_, _<_}
 use native.Mathlib.Nat.{add-zero}
 use native.Mathlib.Omega.{arith}
 use lib.Dec.{leb, ltb, eqb}
-use lib.ListN.{length, take, drop, getD, replicate}
+use lib.ListN.{length, getD}
 use borrow.Author.Tests.{leb-true, leb-false, eqb-true}
 use Rattle.wire.specs.Put.{part, put}
-use Rattle.wire.specs.Stretch.{allIn, nameBytes, digits, zeros}
+use Rattle.wire.specs.Stretch.{nameBytes, digits, zeros}
 use Rattle.wire.proofs.ListLaws.{and-true-left, and-true-right, and-true-both, getD-part, part-part}
 use Rattle.wire.proofs.PutLaws.{part-other}
-use Rattle.paper.specs.Layout.{recordSize, imsiAt, imsiSize, subscriptionAt, plmnCountAt, plmnsAt, plmnSize, mostPlmns, purgedAt, mmeAt, sgsnAt, mostName, imeiAt, mostDigits}
-use Rattle.paper.specs.Table.{Rule, counted, unlisted, imsiRight, twoBits, plmnCountRight, plmnsRight, bitAt, nameRight, purgedRight, imeiRight, rules, allHold, recordRight}
+use Rattle.paper.specs.Layout.{imsiAt, imsiSize, subscriptionAt, plmnCountAt, plmnsAt, plmnSize, mostPlmns, purgedAt, mmeAt, sgsnAt, mostName, imeiAt, mostDigits}
+use Rattle.paper.specs.Table.{Rule, counted, unlisted, imsiRight, twoBits, plmnCountRight, plmnsRight, nameRight, purgedRight, imeiRight, rules, allHold, recordRight}
 
 -- ---- ranges of a record
 

@@ -1,25 +1,24 @@
 -- Each store of 01 replaces one record and keeps the table valid: the change number, the values of a correction, a node, its purge bit, the IMEI.
 -- Assumes nothing.
-use mathlib.Core.Path.{_≡_, refl, sym, ap, _∙_, subst}
-use mathlib.Core.Bool.{Bool, true, false, cond, _&&_, _||_, false≢true}
+use mathlib.Core.Path.{_≡_, refl, sym, _∙_, subst}
+use mathlib.Core.Bool.{Bool, true, false, cond, _||_, false≢true}
 use mathlib.Core.List.{List, [], _∷_}
-use Prim.Native.Nat.{ℕ, _+_, _%_, _^_, _≤_, _<_}
+use Prim.Native.Nat.{ℕ, _+_, _≤_, _<_}
 use native.Mathlib.Omega.{arith}
-use lib.Dec.{leb, ltb, eqb}
-use lib.ListN.{length, take, drop, getD, length-take, length-drop}
+use lib.Dec.{eqb}
+use lib.ListN.{length, take, drop, getD, length-drop}
 use lib.Seq.{length-take-le}
 use borrow.Author.Tests.{eqb-true}
 use Rattle.wire.specs.Number.{be}
-use Rattle.wire.specs.Put.{part, put}
+use Rattle.wire.specs.Put.{put}
 use Rattle.wire.specs.Stretch.{allIn, nameBytes, digits}
 use Rattle.wire.proofs.PutLaws.{length-put}
 use Rattle.paper.specs.Layout.{recordSize, imsiSize, changeAt, subscriptionAt, restrictionAt, plmnCountAt, plmnsAt, purgedAt, mostName, ambrAt, imeiAt, mostDigits}
 use Rattle.paper.specs.Table.{recordRight, recordAt, recordOf, countOf, imsiOf, valid, Slot, store}
-use Rattle.paper.specs.Fields.{filled, withBit, withoutBit, purgedOf, storeNode, storePurged, storeImei}
+use Rattle.paper.specs.Fields.{filled, withoutBit, purgedOf, storeNode, storePurged, storeImei}
 use Rattle.paper.specs.Correction.{valueSize, valueRight, storeValue}
-use Rattle.paper.proofs.RecordLaws.{range, imei-count}
 use Rattle.paper.proofs.FieldLaws.{Node, slot-inside, free-right, change-free, restriction-free, ambr-free, length-filled, subscription-right, plmns-right, purged-right, withNode, node-right, imei-right, imei-size}
-use Rattle.paper.proofs.TableLaws.{Valid, valid-parts, valid-whole, record-inside, length-record, Replaced, replaced-store, replaced-more, replaced-valid, imsi-put}
+use Rattle.paper.proofs.TableLaws.{valid-parts, valid-whole, record-inside, length-record, Replaced, replaced-store, replaced-more, replaced-valid, imsi-put}
 
 -- ---- a node
 

@@ -2,23 +2,23 @@
 -- Assumes nothing.
 use mathlib.Core.Path.{_≡_, refl, sym, ap, _∙_, subst}
 use mathlib.Core.Bool.{Bool, true, false, cond, _&&_}
-use mathlib.Core.Option.{Option, none, some}
+use mathlib.Core.Option.{none, some}
 use mathlib.Core.Logic.{_⊎_, inl, inr}
-use mathlib.Core.List.{List, [], _∷_, _++_}
-use Prim.Native.Nat.{ℕ, zero, suc, _+_, _-_, _*_, _≤_, _<_}
+use mathlib.Core.List.{List, _++_}
+use Prim.Native.Nat.{ℕ, zero, suc, _+_, _≤_, _<_}
 use native.Mathlib.Nat.{not-suc-le-zero, lt-trans, zero-add}
 use native.Mathlib.Numerals.{add-one}
 use native.Mathlib.Omega.{arith}
 use lib.Dec.{leb, ltb, eqb}
 use lib.ListN.{length, take, drop, getD, take-append-drop}
 use lib.Seq.{length-take-le, drop-drop}
-use borrow.Author.Tests.{lt-ltb, le-leb, eq-eqb, ltb-true, ltb-false, leb-true, leb-false, eqb-true, eqb-false}
+use borrow.Author.Tests.{le-leb, eq-eqb, ltb-true, ltb-false, leb-true, eqb-true, eqb-false}
 use Rattle.wire.specs.Number.{num, numAt}
 use Rattle.wire.specs.Put.{part, put}
 use Rattle.wire.specs.Stretch.{same}
 use Rattle.wire.proofs.ListLaws.{and-true-left, and-true-right, and-true-both, and-false-left, and-false-right, length-part, getD-part, part-part, part-middle}
 use Rattle.wire.proofs.NumberLaws.{numAt-agree, numAt-take, numAt-drop}
-use Rattle.wire.proofs.PutLaws.{length-put, put-before, put-after, part-before, part-other, part-put, numAt-before, put-append-left, put-append-right}
+use Rattle.wire.proofs.PutLaws.{length-put, part-before, part-other, put-append-left, put-append-right}
 use Rattle.wire.proofs.StretchLaws.{same-true, same-equal, same-differ}
 use Rattle.paper.specs.Layout.{tableHeader, tableVersion, recordSize, mostRecords, imsiAt, imsiSize}
 use Rattle.paper.specs.Table.{recordRight, recordAt, recordOf, countOf, imsiOf, imsiNumber, allBelow, ascends, headerRight, valid, seek, lookup, store}

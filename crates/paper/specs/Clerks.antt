@@ -14,7 +14,7 @@ use Rattle.wire.specs.Put.{part}
 use Rattle.wire.specs.Stretch.{same}
 use Rattle.paper.specs.Layout.{tableHeader, changeAt, subscriptionAt, restrictionAt, plmnCountAt, plmnsAt, ambrAt}
 use Rattle.paper.specs.Table.{valid, lookup, recordOf, changeOf}
-use Rattle.paper.specs.Correction.{frameHead, frameVersion, frameKind, frameImsi, frameSeen, frameValue, valueSize, valueRight, nextChange, corrected}
+use Rattle.paper.specs.Correction.{frameHead, frameVersion, frameKind, frameImsi, frameSeen, frameValue, valueSize, valueRight, nextChange, Corrected, corrected}
 
 -- ---- the cases of refusal
 
@@ -59,10 +59,12 @@ unfoldable pub noneHolds : List ℕ → List ℕ → List Case → Bool
 noneHolds t f [] = true
 noneHolds t f (c ∷ cs) = not (c .holds t f) && noneHolds t f cs
 
--- the number `n` is given as 01 says: a refusal's exactly if its case is the first of the list that holds, 0 exactly if none does
-pub record FirstThatHolds (t f : List ℕ) (n : ℕ) : Type 0 where
-  pub refused : (m : ℕ) → m ≢ 0 → (n ≡ m) ↔ First t f cases m
-  pub success : (n ≡ 0) ↔ (noneHolds t f cases ≡ true)
+-- the number of `x` is given as 01 says: a refusal's exactly if its case is the first of the list that holds, 0 exactly if none does;
+-- and a refusal leaves the table as it came
+pub record FirstThatHolds (t f : List ℕ) (x : Corrected) : Type 0 where
+  pub refused : (n : ℕ) → n ≢ 0 → (x .number ≡ n) ↔ First t f cases n
+  pub success : (x .number ≡ 0) ↔ (noneHolds t f cases ≡ true)
+  pub unchanged : x .number ≢ 0 → x .table ≡ t
 
 -- ---- what an accepted correction alters
 

@@ -25,16 +25,19 @@ pub record Lent : Type 0 where
   pub answer : List ℕ
   pub cancel : List ℕ
 
+-- `verdict` and `listed`, what the answer says and how many nodes are listed, are for the caller who does not read the answer
 pub record Outcome : Type 0 where
   pub number : ℕ
   pub size : ℕ
+  pub verdict : Option Verdict
+  pub listed : ℕ
   pub table : List ℕ
   pub answer : List ℕ
   pub cancel : List ℕ
 
 -- a refusal without an answer: "the answer length is 0 and all buffers stay as they came"
 unfoldable pub silent : ℕ → Lent → Outcome
-silent n l = record { number = n; size = 0; table = l .table; answer = l .answer; cancel = l .cancel }
+silent n l = record { number = n; size = 0; verdict = none; listed = 0; table = l .table; answer = l .answer; cancel = l .cancel }
 
 -- an answer: "Later bytes of the buffer stay"; "Every answered request writes all 136 bytes; later bytes stay."
 unfoldable pub answered : Lent → List ℕ → List Entry → Reply → Outcome
@@ -42,6 +45,8 @@ answered l t es y =
     record {
       number = 0;
       size = length (answer (l .request) (l .host) (l .realm) y);
+      verdict = some (y .verdict);
+      listed = length es;
       table = t;
       answer = put 0 (answer (l .request) (l .host) (l .realm) y) (l .answer);
       cancel = put 0 (cancelBytes mostEntries es) (l .cancel);

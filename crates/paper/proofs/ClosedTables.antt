@@ -5,7 +5,7 @@ use mathlib.Core.Bool.{Bool, true, false, _&&_, not}
 use mathlib.Core.Option.{Option, none, some}
 use mathlib.Core.List.{List, [], _∷_, _++_}
 use Prim.Native.Nat.{ℕ, _+_, _*_}
-use lib.ListN.{length, take, replicate}
+use lib.ListN.{replicate}
 use Rattle.wire.specs.Number.{be, numAt}
 use Rattle.wire.specs.Put.{put}
 use Rattle.wire.specs.Stretch.{same, allIn}
