@@ -1,5 +1,5 @@
 # The README's two commands and what stands beside them. Each does its own set-up: tests/setup.sh.
-.PHONY: run test interop clean
+.PHONY: run test interop count clean
 SHELL := /bin/bash
 
 # Proves what there is and runs it.
@@ -11,8 +11,12 @@ test:
 	@tests/gate.sh
 
 # A third party reads the second program's answers (docs/INTEROP.md); outside the gate.
-interop: 
+interop:
 	@tests/interop.sh
+
+# Instructions of the hot paths (docs/PERFORMANCE.md); outside the gate.
+count:
+	@tests/count.sh
 
 clean:
 	rm -rf target build
