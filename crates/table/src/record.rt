@@ -1,5 +1,5 @@
 // The fields of record `i`, read and stored. A field's place counts from the start of the record; a store leaves every other byte as it is.
-// What is asked everywhere is that record `i` lies inside the buffer, as every record that `lookup` finds does.
+// What is asked everywhere is that record `i` lies inside the buffer, as every record that `find_record` finds does.
 use crate::layout;
 ghost use mathlib.Core.Path.{_≡_};
 ghost use mathlib.Core.List.{List, [], _∷_};
