@@ -28,7 +28,10 @@ run_test tally "50,000 generated cases reach every row of the tally" tally 1 500
 run_test reader "the proved reader and the second program agree on more than 20,000 messages" reader_compare 1 6000
 run_test library "the C library and the harness compile without a warning" build_harness dymosaw tests/harness.c build/harness
 run_test corrections "20,000 generated corrections through the C library and the second program" compare_cases build/second corrections 1 20000
-run_test corrections-named "named corrections, by the C library" named_file tests/cases/corrections.txt "${x86_run[@]}" build/harness
+run_test library-named "named cases, by the C library" named_cases "${x86_run[@]}" build/harness
+run_test library-cases "50,000 generated cases through the C library and the second program" compare_cases build/second gen 1 50000
+run_test runs "200 runs of 500 requests and corrections in a row" compare_cases build/second runs 1 200 500
+run_test answers "every answer of 50,000 cases is read by the compiled message reader without a fault" answers_read 1 50000
 
 echo "$passed passed, $failed failed"
 [ "$failed" -eq 0 ]

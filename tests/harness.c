@@ -121,12 +121,48 @@ static void correction(void)
     give_back(&frame);
 }
 
+static void request(void)
+{
+    struct lent table = read_field();
+    struct lent message = read_field();
+    struct lent host = read_field();
+    struct lent realm = read_field();
+    struct lent answer = read_field();
+    struct lent cancel = read_field();
+    const uint64_t result =
+        dymosaw_request(table.bytes, table.length, message.bytes, message.length, host.bytes, host.length, realm.bytes,
+                        realm.length, answer.bytes, answer.length, cancel.bytes, cancel.length);
+
+    check_guards(&table, "a byte beside the table was changed");
+    check_guards(&message, "a byte beside the request was changed");
+    check_guards(&host, "a byte beside the own host was changed");
+    check_guards(&realm, "a byte beside the own realm was changed");
+    check_guards(&answer, "a byte beside the answer buffer was changed");
+    check_guards(&cancel, "a byte beside the cancel buffer was changed");
+    check_input(&message, "the request was changed");
+    check_input(&host, "the own host was changed");
+    check_input(&realm, "the own realm was changed");
+    write_number(dymosaw_number(result));
+    write_number(dymosaw_length(result));
+    write_field(&table);
+    write_field(&answer);
+    write_field(&cancel);
+    give_back(&table);
+    give_back(&message);
+    give_back(&host);
+    give_back(&realm);
+    give_back(&answer);
+    give_back(&cancel);
+}
+
 int main(void)
 {
     int op;
     while ((op = getchar()) != EOF) {
         case_number++;
-        if (op == 2)
+        if (op == 1)
+            request();
+        else if (op == 2)
             correction();
         else
             fail("an operation that is not built");

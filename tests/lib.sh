@@ -90,3 +90,13 @@ compare_cases() { # MAKER..
     echo "the library: $ours; the second program: $theirs"
     [ "$ours" = "$theirs" ] && [ "$ours" != "$(sha256sum </dev/null)" ]
 }
+
+# Every answer of generated cases, made by the library and read by the compiled message reader: no fault, no unknown mandatory AVP.
+answers_read() { # SEED COUNT
+    python3 tests/answers.py <(build/second gen "$1" "$2") <(build/second gen "$1" "$2" | "${x86_run[@]}" build/harness) |
+        "${x86_run[@]}" build/reader/harness | python3 -c '
+import sys
+told = sys.stdin.buffer.read()
+print(len(told) // 12, "answers read")
+sys.exit(len(told) < 12 * 1000 or any(told))'
+}

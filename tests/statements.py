@@ -3,12 +3,14 @@
 In its tables a citation is in backticks: `CRATE:NAME` a definition, law or function of a crate, `CRATE/LABEL` a must-fail edit, `test:KEY` a test of
 tests/gate.sh, `unit:NAME` a unit test of the second program, `case:NAME` a named case of tests/cases. A row that cites nothing says "open" or "told".
 """
+import functools
 import glob
 import os
 import re
 import sys
 
 
+@functools.lru_cache(maxsize=None)
 def read(pattern):
     texts = []
     for path in sorted(glob.glob(pattern, recursive=True)):
@@ -17,6 +19,7 @@ def read(pattern):
     return "\n".join(texts)
 
 
+@functools.lru_cache(maxsize=None)
 def declared(crate, name):
     """The crate has a definition, a law, a type or a function of this name."""
     proofs = read(f"crates/{crate}/**/*.antt")

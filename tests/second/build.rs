@@ -77,6 +77,31 @@ impl Record {
         counted(&mut bytes[204..220], self.imei.as_bytes());
         bytes
     }
+
+    /// The record that the 256 bytes of a valid table hold.
+    pub fn read(bytes: &[u8]) -> Record {
+        let number = |at: usize| u32::from_be_bytes([bytes[at], bytes[at + 1], bytes[at + 2], bytes[at + 3]]);
+        let held = |at: usize| bytes[at + 1..at + 1 + bytes[at] as usize].to_vec();
+        let text = |at: usize| String::from_utf8_lossy(&held(at)).into_owned();
+        Record {
+            imsi: text(0),
+            change: number(16),
+            subscription: bytes[20],
+            restriction: number(24),
+            plmns: bytes[32..].chunks(3).take(bytes[28] as usize).map(|plmn| [plmn[0], plmn[1], plmn[2]]).collect(),
+            purged: bytes[56],
+            mme: held(64),
+            sgsn: held(129),
+            uplink: number(196),
+            downlink: number(200),
+            imei: text(204),
+        }
+    }
+}
+
+/// The records of a valid table.
+pub fn records(table: &[u8]) -> Vec<Record> {
+    table[8..].chunks(RECORD).map(Record::read).collect()
 }
 
 /// A count byte, then the content, then zeros, as the table holds IMSI, names and IMEI.

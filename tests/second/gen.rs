@@ -21,9 +21,11 @@ mod table;
 #[path = "gen_visit.rs"]
 mod visit;
 
+use crate::build::Record;
 use crate::dictionary::Dictionary;
-use crate::protocol::{write_case, Case};
+use crate::protocol::{write_case, Case, Outcome};
 use crate::random::Random;
+use crate::registry;
 use keys::Keys;
 use std::io::{self, Write};
 
@@ -44,6 +46,41 @@ pub fn corrections(seed: u64, count: u64, out: &mut impl Write) -> io::Result<()
         write_case(out, &correction::case(&mut random))?;
     }
     Ok(())
+}
+
+/// `second runs SEED RUNS STEPS`: runs of requests and corrections in a row. The table of a step is the one that the step before left, so a registry that
+/// gives the same results as `second cases` has kept the same table all along.
+pub fn runs(dictionary: &Dictionary, seed: u64, runs: u64, steps: u64, out: &mut impl Write) -> io::Result<()> {
+    let keys = Keys::new(dictionary);
+    let mut random = Random::new(seed);
+    for _ in 0..runs {
+        let count = random.within(1, 4);
+        let mut records = table::records_of(&mut random, count);
+        for _ in 0..steps {
+            let case = step(&mut random, &keys, &records);
+            write_case(out, &case)?;
+            records = crate::build::records(&table_after(dictionary, &case));
+        }
+    }
+    Ok(())
+}
+
+fn step(random: &mut Random, keys: &Keys, records: &[Record]) -> Case {
+    if random.chance(1, 4) {
+        return correction::over(random, records);
+    }
+    let mut plan = request::over(random, keys, records);
+    if random.chance(1, 8) {
+        damage::apply(random, keys, &mut plan);
+        plan.table = crate::build::table(records);
+    }
+    plan.case(random)
+}
+
+fn table_after(dictionary: &Dictionary, case: &Case) -> Vec<u8> {
+    match registry::judge(dictionary, case).outcome {
+        Outcome::Request { table, .. } | Outcome::Correction { table, .. } => table,
+    }
 }
 
 fn case(random: &mut Random, keys: &Keys) -> Case {

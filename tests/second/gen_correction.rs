@@ -31,6 +31,15 @@ pub fn case(random: &mut Random) -> Case {
     Case::Correction { table: bytes, frame: finished(frame) }
 }
 
+/// A correction over these records, one in four of them damaged.
+pub fn over(random: &mut Random, records: &[Record]) -> Case {
+    let mut frame = ordinary(random, records);
+    if random.chance(1, 4) {
+        damage(random, &mut frame);
+    }
+    Case::Correction { table: build::table(records), frame: finished(frame) }
+}
+
 fn finished(frame: Frame) -> Vec<u8> {
     let mut bytes = build::correction(frame.kind, &frame.imsi, frame.seen, &frame.value);
     bytes[2] = frame.version;

@@ -66,9 +66,14 @@ fn put_length(request: &mut [u8], length: u32) {
 }
 
 pub fn ordinary(random: &mut Random, keys: &Keys) -> Plan {
-    let kind = random.pick(&[Command::Ulr, Command::Ulr, Command::Ulr, Command::Pur, Command::Nor]);
     let records = table::records(random);
-    let mut avps = required(random, keys, kind, &records);
+    over(random, keys, &records)
+}
+
+/// An ordinary request over these records.
+pub fn over(random: &mut Random, keys: &Keys, records: &[Record]) -> Plan {
+    let kind = random.pick(&[Command::Ulr, Command::Ulr, Command::Ulr, Command::Pur, Command::Nor]);
+    let mut avps = required(random, keys, kind, records);
     optional(random, keys, kind, &mut avps);
     if random.chance(1, 8) {
         random.shuffle(&mut avps);
@@ -76,7 +81,7 @@ pub fn ordinary(random: &mut Random, keys: &Keys) -> Plan {
     let (longer, further) = (random.pick(&[0, 0, 1, 4, 33]), random.pick(&[0, 0, 1, 4, 68]));
     Plan {
         kind,
-        table: crate::build::table(&records),
+        table: crate::build::table(records),
         host: own_name(random, b"hss.example"),
         realm: own_name(random, b"example"),
         answer: random.bytes(4352 + longer),

@@ -23,7 +23,7 @@ pub fn records(random: &mut Random) -> Vec<Record> {
     records_of(random, count)
 }
 
-fn records_of(random: &mut Random, count: usize) -> Vec<Record> {
+pub fn records_of(random: &mut Random, count: usize) -> Vec<Record> {
     let mut records = Vec::new();
     let mut taken = BTreeSet::new();
     while records.len() < count {

@@ -2,7 +2,7 @@
 -- Assumes nothing.
 use mathlib.Core.Path.{_≡_, refl, sym, ap, _∙_}
 use mathlib.Core.Logic.{_⊎_, inl, inr}
-use mathlib.Core.Bool.{Bool, true, false, _&&_, _||_, true≢false}
+use mathlib.Core.Bool.{Bool, true, false, _&&_, true≢false}
 use mathlib.Core.List.{List, [], _∷_}
 use Prim.Native.Nat.{ℕ, _+_, _≤_, _<_}
 use native.Mathlib.Omega.{arith}
@@ -13,6 +13,7 @@ use borrow.Author.Tests.{leb-false, ltb-false}
 use Rattle.wire.specs.Put.{part, put}
 use Rattle.wire.proofs.PutLaws.{length-put, part-put, part-before, part-after, put-before, put-after}
 use Rattle.paper.specs.Clerks.{Field, heldIn, liesIn}
+use Rattle.paper.proofs.TestLaws.{or-false-left, or-false-right}
 
 -- each field in turn gets as many bytes of `v` as it has
 unfoldable pub putFields : List Field → List ℕ → List ℕ → List ℕ
@@ -81,14 +82,6 @@ held-putFields (x ∷ xs) v r from n a =
     ∙ ap (λ (m : ℕ). part (x .at) m s) (sym (first-size x xs v r from n a))
     ∙ part-put (x .at) (take (x .size) v) r (omega arith) in
     rw (own, held-putFields xs d s (x .at + x .size) rs ra) (take-append-drop (x .size) v)
-
-pub or-false-left : (a b : Bool) → a || b ≡ false → a ≡ false
-or-false-left true b e = absurd (true≢false e)
-or-false-left false b e = refl
-
-pub or-false-right : (a b : Bool) → a || b ≡ false → b ≡ false
-or-false-right true b e = absurd (true≢false e)
-or-false-right false b e = e
 
 -- a byte outside a field is before it or behind it
 pub outside : (x : Field) (at : ℕ) → leb (x .at) at && ltb at (x .at + x .size) ≡ false → (at < x .at) ⊎ (x .at + x .size ≤ at)

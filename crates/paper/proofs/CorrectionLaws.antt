@@ -23,7 +23,8 @@ use Rattle.paper.proofs.TableLaws.{Valid, valid-parts, valid-whole, len
 use Rattle.paper.proofs.FieldLaws.{free-right, change-free}
 use Rattle.paper.proofs.StoreLaws.{Corrects, subscription, restriction, plmns, ambr, corrects, withValue, replaced-value, value-right, imsi-value}
 use Rattle.paper.proofs.CorrectionCases.{corrected-cases, refused-alters-nothing}
-use Rattle.paper.proofs.CorrectionFields.{putFields, sizeOf, Ascend, length-putFields, held-putFields, byte-putFields, held-behind, or-false-left, or-false-right, outside}
+use Rattle.paper.proofs.TestLaws.{or-false-left, or-false-right}
+use Rattle.paper.proofs.CorrectionFields.{putFields, sizeOf, Ascend, length-putFields, held-putFields, byte-putFields, held-behind, outside}
 
 -- ---- kinds
 

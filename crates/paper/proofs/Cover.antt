@@ -66,7 +66,7 @@ module _ (kind : ℕ → ℕ → Kind) (seen : ℕ → ℕ → List ℕ → List
 
   -- ---- a seam of a stretch: its AVPs on either side are read as they were
 
-  view-front : (left at : ℕ) (s b : List ℕ) → framed s ≡ true
+  pub view-front : (left at : ℕ) (s b : List ℕ) → framed s ≡ true
       → view kind seen left at (s ++ b) ≡ viewAvp kind seen left (standing (avpOf s) at (at + length (s ++ b))) then view kind seen left (at + padded (lengthOf s)) (after s ++ b)
   view-front left at s b e =
       let j : frontAvp s ++ (after s ++ b) ≡ s ++ b = sym (append-assoc (frontAvp s) (after s) b) ∙ ap (λ (x : List ℕ). x ++ b) (front-rejoin s e) in
@@ -91,14 +91,14 @@ module _ (kind : ℕ → ℕ → Kind) (seen : ℕ → ℕ → List ℕ → List
       (clear-then _ _ (clear-placed left at (at + length (s ++ b)) s (clear-first _ _ c′)) (r .0), rw l at (r .1)))
       (λ at s h e q. absurd (false≢true q))
 
-  clear-at : (left at at′ : ℕ) (s : List ℕ) → Clear (view kind seen left at s) → Clear (view kind seen left at′ s)
+  pub clear-at : (left at at′ : ℕ) (s : List ℕ) → Clear (view kind seen left at s) → Clear (view kind seen left at′ s)
   clear-at left at at′ s c = clear-any-place _ _ (view-placeless kind seen left at at′ s) c
 
   -- the AVPs before a seam, and those behind it
-  before-seam : (left at : ℕ) (a b : List ℕ) → unbroken (avps 0 a) ≡ true → Clear (view kind seen left at (a ++ b)) → Widened kind seen a a none
+  pub before-seam : (left at : ℕ) (a b : List ℕ) → unbroken (avps 0 a) ≡ true → Clear (view kind seen left at (a ++ b)) → Widened kind seen a a none
   before-seam left at a b u c = widened-refl left 0 a (seam-clear 0 a u left b (clear-at left at 0 (a ++ b) c) .0)
 
-  behind-seam : (left at : ℕ) (a b : List ℕ) → unbroken (avps 0 a) ≡ true → Clear (view kind seen left at (a ++ b)) → Clear (view kind seen left (length a) b)
+  pub behind-seam : (left at : ℕ) (a b : List ℕ) → unbroken (avps 0 a) ≡ true → Clear (view kind seen left at (a ++ b)) → Clear (view kind seen left (length a) b)
   behind-seam left at a b u c = clear-at left (0 + length a) (length a) b (seam-clear 0 a u left b (clear-at left at 0 (a ++ b) c) .1)
 
   -- ---- one AVP more
@@ -120,7 +120,7 @@ module _ (kind : ℕ → ℕ → Kind) (seen : ℕ → ℕ → List ℕ → List
       (widened-append (before-seam left at a (x ++ b) u c) (enter {i = i} {m = none} x z ox oz k g w (widened-refl left (length a + length x) b (clear-rest _ _ d))))
 
   -- what a clear group holds is clear
-  inside-clear : (left at to : ℕ) (x : List ℕ) → kindAt kind seen x ≡ Group → Clear (viewAvp kind seen left (standing (avpOf x) at to))
+  pub inside-clear : (left at to : ℕ) (x : List ℕ) → kindAt kind seen x ≡ Group → Clear (viewAvp kind seen left (standing (avpOf x) at to))
       → (P : Type 0) → ((l b : ℕ) → Clear (view kind seen l b (bodyOf x)) → P) → P
   unfolding avpOf group
   inside-clear zero at to x g c P f = absurd (faulty-is 5004 _ (rw (view-deep kind seen (standing (avpOf x) at to) g) at (c .fault)))

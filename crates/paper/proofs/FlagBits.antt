@@ -1,13 +1,14 @@
--- Laws of a flag octet with one bit flipped: that bit is the other, and each higher bit is as it was.
+-- Laws of a number with one bit flipped: that bit is the other, and each other bit is as it was.
 -- Assumes nothing.
-use mathlib.Core.Path.{_≡_, refl}
+use mathlib.Core.Path.{_≡_, refl, sym, _∙_}
+use mathlib.Core.Logic.{_≢_}
 use mathlib.Core.Bool.{Bool, true, false, cond, not}
 use Prim.Native.Nat.{ℕ, suc, _+_, _-_, _*_, _/_, _%_, _^_, _≤_, _<_}
-use native.Mathlib.Nat.{one-le-pow, pow-suc, div-div-eq-div-mul, div-eq-sub-div, add-div-right, le-div-iff-mul-le}
+use native.Mathlib.Nat.{one-le-pow, pow-suc, div-div-eq-div-mul, div-eq-sub-div, add-div-right, add-mul-div-left, le-div-iff-mul-le, div-lt-iff-lt-mul}
 use native.Mathlib.Omega.{arith}
-use lib.Dec.{lit<}
+use lib.Dec.{ltb, lit<}
 use lib.Pow.{pow-add}
-use borrow.Author.Tests.{eqb-true, eqb-false, eq-eqb, ne-eqb}
+use borrow.Author.Tests.{ltb-true, ltb-false, eqb-true, eqb-false, eq-eqb, ne-eqb}
 use Rattle.paper.specs.Avp.{bit, hasV, hasM}
 use Rattle.paper.specs.Widened.{flipped}
 
@@ -63,3 +64,41 @@ hasM-flipped k n h = let e : suc k + (5 - k) ≡ 6 = omega arith in rw e at (fli
 
 pub hasV-flipped : (k n : ℕ) → k < 7 → hasV (flipped k n) ≡ hasV n
 hasV-flipped k n h = let e : suc k + (6 - k) ≡ 7 = omega arith in rw e at (flip-above k (6 - k) n)
+
+-- ---- the other bits
+
+add-above : (j d n : ℕ) → (n + 2 ^ (j + suc d)) / 2 ^ j % 2 ≡ n / 2 ^ j % 2
+add-above j d n = rw (pow-add 2 j (suc d), add-mul-div-left n (2 ^ suc d) (pos j), pow-suc 2 d) (omega arith)
+
+least-set : (k n : ℕ) → bit k n ≡ true → 2 ^ k ≤ n
+least-set k n e =
+    let o = set-odd k n e in
+    let q : 1 ≤ n / 2 ^ k = omega arith in
+    let l = le-div-iff-mul-le (pos k) .0 q in
+    omega arith
+
+flip-below : (j d n : ℕ) → bit j (flipped (j + suc d) n) ≡ bit j n
+flip-below j d n =
+    flipped-cases (λ m. bit j m ≡ bit j n) (j + suc d) n
+    (λ e. let l = least-set (j + suc d) n e in let q : n - 2 ^ (j + suc d) + 2 ^ (j + suc d) ≡ n = omega arith in let a = rw q at (add-above j d (n - 2 ^ (j + suc d))) in rw (sym a))
+    (λ e. rw (add-above j d n))
+
+pub flip-other : (j k n : ℕ) → j ≢ k → bit j (flipped k n) ≡ bit j n
+flip-other j k n h = go (ltb j k) refl
+  where
+    go : (b : Bool) → ltb j k ≡ b → bit j (flipped k n) ≡ bit j n
+    go true e = let l = ltb-true j k e in let q : j + suc (k - j - 1) ≡ k = omega arith in rw q at (flip-below j (k - j - 1) n)
+    go false e = let l = ltb-false j k e in let q : suc k + (j - k - 1) ≡ j = omega arith in rw q at (flip-above k (j - k - 1) n)
+
+-- a number below a power of 2 stays below it
+less-kept : (k d w : ℕ) → w < 2 ^ (d + suc k) → flipped k w < 2 ^ (d + suc k)
+less-kept k d w l =
+    let e : 2 ^ (d + suc k) ≡ 2 ^ d * (2 ^ k * 2) = rw (pow-add 2 d (suc k), pow-suc 2 k) in
+    let p : 0 < 2 ^ k * 2 = let z = pos k in omega arith in
+    let q : flipped k w / (2 ^ k * 2) ≡ w / (2 ^ k * 2) = sym (div-div-eq-div-mul (flipped k w) (2 ^ k) 2) ∙ half-kept k w ∙ div-div-eq-div-mul w (2 ^ k) 2 in
+    rw e (div-lt-iff-lt-mul p .0 (rw q (div-lt-iff-lt-mul p .1 (rw e at l))))
+
+pub flipped-less : (k n w : ℕ) → k < n → w < 2 ^ n → flipped k w < 2 ^ n
+flipped-less k n w h l =
+    let e : n - suc k + suc k ≡ n = omega arith in
+    rw e at (less-kept k (n - suc k) w (rw e l))

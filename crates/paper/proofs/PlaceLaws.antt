@@ -49,7 +49,7 @@ clear-any-place v w p c =
       unsupported = shown-none (w .unsupported) (sym (p .unsupported) ∙ ap shownOf (c .unsupported));
     }
 
-then-any-place : (v v′ w w′ : View) → AnyPlace v v′ → AnyPlace w w′ → AnyPlace (v then w) (v′ then w′)
+pub then-any-place : (v v′ w w′ : View) → AnyPlace v v′ → AnyPlace w w′ → AnyPlace (v then w) (v′ then w′)
 unfolding _then_
 then-any-place v v′ w w′ p q =
     record {
@@ -58,7 +58,7 @@ then-any-place v v′ w w′ p q =
       known = rw (p .known, q .known);
     }
 
-any-place : (v : View) → AnyPlace v v
+pub any-place : (v : View) → AnyPlace v v
 any-place v = record { fault = refl; unsupported = refl; known = refl }
 
 abbrev pub standing : Avp → ℕ → ℕ → Placed

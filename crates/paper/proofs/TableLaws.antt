@@ -25,10 +25,6 @@ use Rattle.paper.specs.Table.{recordRight, recordAt, recordOf, countOf, 
 
 -- ---- a test at each number below another
 
-pub allBelow-more : (f : ℕ → Bool) (n : ℕ) → allBelow f n ≡ true → f n ≡ true → allBelow f (n + 1) ≡ true
-unfolding allBelow
-allBelow-more f n e h = rw (add-one, e, h)
-
 pub allBelow-at : (f : ℕ → Bool) (n i : ℕ) → allBelow f n ≡ true → i < n → f i ≡ true
 unfolding allBelow
 allBelow-at f zero i e h = absurd (not-suc-le-zero h)
@@ -37,6 +33,10 @@ allBelow-at f (suc n) i e h = go (allBelow-at f n i (and-true-left (allBelow f n
     go : (i < n → f i ≡ true) → (b : Bool) → eqb i n ≡ b → f i ≡ true
     go before true q = ap f (eqb-true i n q) ∙ and-true-right (allBelow f n) (f n) e
     go before false q = let ne = eqb-false i n q in before (omega arith)
+
+pub allBelow-more : (f : ℕ → Bool) (n : ℕ) → allBelow f n ≡ true → f n ≡ true → allBelow f (n + 1) ≡ true
+unfolding allBelow
+allBelow-more f n e h = rw (add-one, e, h)
 
 pub allBelow-intro : (f : ℕ → Bool) (n : ℕ) → ((i : ℕ) → i < n → f i ≡ true) → allBelow f n ≡ true
 unfolding allBelow

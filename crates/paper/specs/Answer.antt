@@ -1,18 +1,18 @@
 -- 01's section "The answer": its bytes, from the request, the own names and what the request came to.
 -- Assumes nothing.
-use mathlib.Core.Bool.{Bool, true, false, cond, _&&_, not}
+use mathlib.Core.Bool.{Bool, true, false, cond}
 use mathlib.Core.Option.{Option, none, some}
 use mathlib.Core.List.{List, [], _∷_, _++_}
-use Prim.Native.Nat.{ℕ, zero, suc, _+_, _*_, _/_}
-use lib.ListN.{length, take, drop, getD}
-use lib.Dec.{leb, ltb, eqb}
+use Prim.Native.Nat.{ℕ, _+_, _/_}
+use lib.ListN.{length}
+use lib.Dec.{eqb}
 use Rattle.wire.specs.Number.{be, numAt}
 use Rattle.wire.specs.Put.{part}
 use Rattle.paper.specs.Avp.{Avp, written, asReceived}
 use Rattle.paper.specs.Reader.{Placed, Avps, whole, broken, more}
 use Rattle.paper.specs.Find.{hasKey}
-use Rattle.paper.specs.Layout.{messageHeader, restrictionAt, ambrAt}
-use Rattle.paper.specs.Profile.{Key, vendor3gpp, sessionId, originHost, vendorId, resultCode, authSessionState, failedAvp, proxyInfo, originRealm, experimentalResult, experimentalResultCode, bandwidthDownlink, bandwidthUplink, subscriptionData, ulaFlags, subscriberStatus, accessRestrictionData, ambr, puaFlags}
+use Rattle.paper.specs.Layout.{messageHeader, ambrAt}
+use Rattle.paper.specs.Profile.{Key, vendor3gpp, sessionId, originHost, vendorId, resultCode, authSessionState, failedAvp, proxyInfo, originRealm, experimentalResult, experimentalResultCode, bandwidthDownlink, bandwidthUplink, subscriptionData, subscriberStatus, accessRestrictionData, ambr}
 use Rattle.paper.specs.Request.{isProxiable, avpsOf, find}
 use Rattle.paper.specs.Procedures.{restrictionOf}
 
@@ -54,10 +54,14 @@ failedItem (some a) = item failedAvp (asReceived a)
 unfoldable pub restrictionItem : ℕ → List ℕ
 restrictionItem n = cond (eqb n 0) [] (numberItem accessRestrictionData n)
 
-unfoldable pub subscriptionItem : List ℕ → List ℕ
-subscriptionItem r =
+-- of the record's three numbers
+unfoldable pub subscriptionOf : ℕ → ℕ → ℕ → List ℕ
+subscriptionOf restriction uplink downlink =
     item subscriptionData
-    (numberItem subscriberStatus 0 ++ (restrictionItem (restrictionOf r) ++ item ambr (numberItem bandwidthUplink (numAt 4 r ambrAt) ++ numberItem bandwidthDownlink (numAt 4 r (ambrAt + 4)))))
+    (numberItem subscriberStatus 0 ++ (restrictionItem restriction ++ item ambr (numberItem bandwidthUplink uplink ++ numberItem bandwidthDownlink downlink)))
+
+abbrev pub subscriptionItem : List ℕ → List ℕ
+subscriptionItem r = subscriptionOf (restrictionOf r) (numAt 4 r ambrAt) (numAt 4 r (ambrAt + 4))
 
 -- what an answer holds beside the request's own parts
 pub record Reply : Type 0 where

@@ -1,16 +1,16 @@
 -- 01's section "Corrections": what a frame comes to, for all bytes.
 -- Assumes nothing.
-use mathlib.Core.Bool.{Bool, true, false, cond, _&&_, _||_, not}
+use mathlib.Core.Bool.{Bool, true, cond, _&&_, _||_, not}
 use mathlib.Core.Option.{Option, none, some}
-use mathlib.Core.List.{List, [], _∷_, _++_}
-use Prim.Native.Nat.{ℕ, zero, suc, _+_, _-_, _*_, _%_, _^_}
+use mathlib.Core.List.{List}
+use Prim.Native.Nat.{ℕ, _+_, _*_, _%_, _^_}
 use lib.ListN.{length, take, drop, getD}
 use lib.Dec.{leb, ltb, eqb}
 use Rattle.wire.specs.Number.{be, numAt}
-use Rattle.wire.specs.Put.{part, put}
+use Rattle.wire.specs.Put.{part}
 use Rattle.wire.specs.Stretch.{zeros}
-use Rattle.paper.specs.Layout.{recordSize, changeAt, subscriptionAt, restrictionAt, plmnCountAt, plmnsAt, plmnSize, mostPlmns, ambrAt, imsiSize}
-use Rattle.paper.specs.Table.{valid, lookup, recordOf, recordAt, changeOf, store}
+use Rattle.paper.specs.Layout.{changeAt, subscriptionAt, restrictionAt, plmnCountAt, plmnsAt, plmnSize, mostPlmns, ambrAt, imsiSize}
+use Rattle.paper.specs.Table.{valid, lookup, recordOf, changeOf, store}
 
 -- "Frame: whole length (2), version 1, kind, IMSI (16, as stored), change number seen (4), value."
 abbrev pub frameHead : ℕ

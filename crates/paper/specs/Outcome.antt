@@ -1,13 +1,12 @@
 -- What a request comes to, for all bytes: the number returned, the answer's length, and every byte of table, answer buffer and cancel buffer after the call.
 -- Assumes nothing.
-use mathlib.Core.Bool.{Bool, true, false, cond, _&&_, _||_, not}
+use mathlib.Core.Bool.{true, cond, _&&_, _||_, not}
 use mathlib.Core.Option.{Option, none, some}
-use mathlib.Core.List.{List, [], _∷_, _++_}
-use Prim.Native.Nat.{ℕ, zero, suc, _+_}
+use mathlib.Core.List.{List, [], _++_}
+use Prim.Native.Nat.{ℕ}
 use lib.ListN.{length}
-use lib.Dec.{leb, ltb, eqb}
+use lib.Dec.{ltb}
 use Rattle.wire.specs.Put.{put}
-use Rattle.paper.specs.Avp.{Avp}
 use Rattle.paper.specs.Layout.{leastAnswer, cancelSize, leastRequest, mostRequest, mostEntries}
 use Rattle.paper.specs.Profile.{ulaFlags, puaFlags}
 use Rattle.paper.specs.Table.{valid, lookup, recordOf}

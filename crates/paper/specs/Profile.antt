@@ -1,6 +1,6 @@
 -- The application: its number, its commands, and the AVPs that each command requires and uses (01, "Refusals with an answer"). Data, in one place.
 -- Assumes nothing.
-use mathlib.Core.Bool.{Bool, true, false, cond}
+use mathlib.Core.Bool.{cond}
 use mathlib.Core.Option.{Option, none, some}
 use mathlib.Core.List.{List, [], _∷_, _++_}
 use Prim.Native.Nat.{ℕ}

@@ -1,21 +1,21 @@
 -- 01's section "Refusals with an answer", up to the Result-Codes: what a request holds, and the first refusal that applies to it.
 -- Assumes nothing.
-use mathlib.Core.Bool.{Bool, true, false, cond, _&&_, _||_, not}
+use mathlib.Core.Bool.{Bool, true, false, cond, _&&_, _||_}
 use mathlib.Core.Option.{Option, none, some}
 use mathlib.Core.List.{List, [], _∷_, _++_, map}
-use Prim.Native.Nat.{ℕ, zero, suc, _+_, _-_, _*_, _/_, _%_, _^_}
-use lib.ListN.{length, take, drop, getD, replicate}
+use Prim.Native.Nat.{ℕ, _%_}
+use lib.ListN.{length, drop, getD, replicate}
 use lib.Dec.{leb, ltb, eqb}
-use Rattle.wire.specs.Number.{be, numAt}
+use Rattle.wire.specs.Number.{numAt}
 use Rattle.wire.specs.Stretch.{nameBytes, digits}
 use Rattle.dictionary.specs.declared.Kind.{Kind}
 use Rattle.dictionary.specs.declared.Kind.the-variants.{Four, Eight, Any, Group, Closed, Unknown}
 use Rattle.dictionary.specs.Rows.{keyOf, kindOf}
 use Rattle.paper.specs.Avp.{Avp, bit, flagsFor}
-use Rattle.paper.specs.Reader.{Placed, Avps, whole, broken, more, avps, bodyAt, View, Faulty, view, mostGroups, orElse}
-use Rattle.paper.specs.Find.{firstOf, bodyFound, hasKey, member, firstSecond}
+use Rattle.paper.specs.Reader.{Placed, Avps, whole, avps, bodyAt, View, Faulty, view, mostGroups, orElse}
+use Rattle.paper.specs.Find.{firstOf, bodyFound, firstSecond}
 use Rattle.paper.specs.Layout.{messageHeader, mostName}
-use Rattle.paper.specs.Profile.{Key, Command, application, commandOf, userName, originHost, visitedPlmnId, terminalInformation, imei, proxyInfo}
+use Rattle.paper.specs.Profile.{Key, Command, application, commandOf, userName, originHost, visitedPlmnId, terminalInformation, imei}
 
 -- ---- the header, RFC 6733 section 3; a byte past the end reads as 0
 

@@ -1,15 +1,15 @@
 -- 01's section "The table": when a record and a table are valid, which record has an IMSI, and what its fields hold.
 -- Assumes nothing.
-use mathlib.Core.Bool.{Bool, true, false, cond, _&&_, _||_, not}
+use mathlib.Core.Bool.{Bool, true, cond, _&&_, _||_, not}
 use mathlib.Core.Option.{Option, none, some}
-use mathlib.Core.List.{List, [], _∷_, _++_}
+use mathlib.Core.List.{List, [], _∷_}
 use Prim.Native.Nat.{ℕ, zero, suc, _+_, _-_, _*_, _/_, _%_, _^_}
-use lib.ListN.{length, take, drop, getD, replicate}
+use lib.ListN.{length, getD}
 use lib.Dec.{leb, ltb, eqb}
-use Rattle.wire.specs.Number.{be, num, numAt}
+use Rattle.wire.specs.Number.{num, numAt}
 use Rattle.wire.specs.Put.{part, put}
 use Rattle.wire.specs.Stretch.{same, nameBytes, digits, zeros}
-use Rattle.paper.specs.Layout.{tableHeader, tableVersion, recordSize, mostRecords, imsiAt, imsiSize, changeAt, subscriptionAt, restrictionAt, plmnCountAt, plmnsAt, plmnSize, mostPlmns, purgedAt, mmeAt, sgsnAt, mostName, ambrAt, imeiAt, mostDigits}
+use Rattle.paper.specs.Layout.{tableHeader, tableVersion, recordSize, mostRecords, imsiAt, imsiSize, changeAt, subscriptionAt, plmnCountAt, plmnsAt, plmnSize, mostPlmns, purgedAt, mmeAt, sgsnAt, mostName, imeiAt, mostDigits}
 
 -- ---- the rules of a record, row by row of 01's table
 

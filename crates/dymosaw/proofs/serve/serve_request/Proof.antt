@@ -1,0 +1,62 @@
+-- `serve_request` meets its contract: the refusal that applies first, or the request accepted.
+-- Assumes nothing.
+use Rattle.paper.specs.Outcome.{Lent}
+use Rattle.dymosaw.specs.Serve.{lent}
+use Rattle.dymosaw.proofs.ReplyLaws.{ask-refusal, none-fails, refused-outcome, accepted-outcome}
+use borrow.Author.Needs.{needs}
+use Rattle.dymosaw.proofs.serve.serve_request.Statement.{statement}
+use Rattle.dymosaw.proofs.serve.serve_request.Tie as tie
+
+abbrev given : tie.Start → Lent
+given s = lent (s .args .table .now) (s .args .request .now) (s .args .host .now) (s .args .realm .now) (s .args .answer .now) (s .args .cancel .now)
+
+all-keys-requires : tie.Need-all-keys-requires
+all-keys-requires c κs = search needs
+
+all-kinds-requires : tie.Need-all-kinds-requires
+all-kinds-requires c κs = search needs
+
+slice-aggregate-judge : tie.Need-slice-aggregate-judge
+slice-aggregate-judge c = search needs
+
+slice-aggregate-judge-2 : tie.Need-slice-aggregate-judge-2
+slice-aggregate-judge-2 c = search needs
+
+judge-requires : tie.Need-judge-requires
+judge-requires c κs = (record { keys = c .before .before .before .all-keys .ensures; kinds = c .before .before .all-kinds .ensures }, c .before .before .before .before .before .before .before .before .before .before .pre .least)
+
+enum-known-code : tie.Need-enum-known-code
+enum-known-code c = search needs
+
+put-refusal-requires : tie.Need-put-refusal-requires
+put-refusal-requires c κs = let s = c .before .before .before .before .before .before .before .before .before .before .before .before .before .before .before .before in (ask-refusal (given s) (c .before .before .before .before .before .judge .ensures) _ _ _ (c .before .before .before .code .given .1) (s .pre), s .pre .cancel-room)
+
+enum-told : tie.Need-enum-told
+enum-told c = search needs
+
+serve-accepted-requires : tie.Need-serve-accepted-requires
+serve-accepted-requires c κs = let s = c .before .before .before .before .before .before .before .before .before .before .before .before .before .before .before .before in record { passed = s .pre; fine = none-fails (given s) (c .before .before .before .before .before .judge .ensures) (c .before .before .before .enum-told .given .1) }
+
+same-length : tie.Need-same-length
+same-length c = search needs
+
+same-length-2 : tie.Need-same-length-2
+same-length-2 c = search needs
+
+returns : tie.Need-returns
+returns c = refused-outcome (given (c .before .before .before .before .before .before .before .before .before .before .before .before .before .before .before .before .before .before .before .before .before)) (c .before .before .before .before .before .before .before .before .before .before .judge .ensures) _ _ _ (c .before .before .before .before .before .before .before .before .code .given .1) (c .before .before .before .before .put-refusal .ensures _)
+
+same-length-3 : tie.Need-same-length-3
+same-length-3 c = search needs
+
+same-length-4 : tie.Need-same-length-4
+same-length-4 c = search needs
+
+same-length-5 : tie.Need-same-length-5
+same-length-5 c = search needs
+
+returns-2 : tie.Need-returns-2
+returns-2 c = accepted-outcome (given (c .before .before .before .before .before .before .before .before .before .before .before .before .before .before .before .before .before .before .before .before .before .before .before)) (c .before .before .before .before .before .before .before .before .before .before .before .before .judge .ensures) (c .before .before .before .before .before .before .before .before .before .before .enum-told .given .1) (c .before .before .before .before .before .before .serve-accepted .ensures)
+
+pub serve-request-spec : {M : Type 1} → statement M
+serve-request-spec = tie.close (tie.spec all-keys-requires all-kinds-requires slice-aggregate-judge slice-aggregate-judge-2 judge-requires enum-known-code put-refusal-requires enum-told serve-accepted-requires same-length same-length-2 returns same-length-3 same-length-4 same-length-5 returns-2)

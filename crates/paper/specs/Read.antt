@@ -1,0 +1,78 @@
+-- What a promise reads: the record of a request's IMSI before and after the call, the entries of the cancel buffer, and the AVPs of the answer.
+-- No definition here speaks of how a request is carried out. Assumes nothing.
+use mathlib.Core.Bool.{Bool, cond}
+use mathlib.Core.Option.{Option, none, some}
+use mathlib.Core.List.{List, [], _∷_}
+use Prim.Native.Nat.{ℕ, zero, suc, _+_}
+use lib.ListN.{take, getD}
+use lib.Dec.{eqb}
+use Rattle.wire.specs.Number.{numAt}
+use Rattle.wire.specs.Put.{part}
+use Rattle.paper.specs.Avp.{sizeOf}
+use Rattle.paper.specs.Reader.{Placed}
+use Rattle.paper.specs.Find.{bodyFound}
+use Rattle.paper.specs.Layout.{purgedAt, imeiAt, entrySize, mostEntries}
+use Rattle.paper.specs.Profile.{Key, resultCode, experimentalResult, experimentalResultCode}
+use Rattle.paper.specs.Table.{Slot, nameOf, bitAt}
+use Rattle.paper.specs.Request.{find, inside, avpsOf, numberOf}
+use Rattle.paper.specs.Procedures.{Entry, imsiField}
+use Rattle.paper.specs.Clerks.{recordWith}
+use Rattle.paper.specs.Outcome.{Lent, outcome}
+
+-- ---- the record of the request's IMSI
+
+abbrev pub before : Lent → List ℕ
+before l = recordWith (imsiField (l .request)) (l .table)
+
+abbrev pub after : Lent → List ℕ
+after l = recordWith (imsiField (l .request)) (outcome l .table)
+
+-- "bit 0 purged in MME, bit 1 purged in SGSN"
+abbrev pub purgedIn : Slot → List ℕ → Bool
+purgedIn slot r = bitAt purgedAt (slot .purgeBit) r
+
+-- "IMEI digit count 0, 14 or 15, ASCII digits"
+abbrev pub imeiIn : List ℕ → List ℕ
+imeiIn r = part (imeiAt + 1) (getD r imeiAt 0) r
+
+-- ---- the cancel buffer: "two entries of 68 bytes, filled from the first: 1 MME or 2 SGSN, type, name length, zero, name zero-filled"
+
+-- the entry at the byte `at`
+abbrev pub entryAt : ℕ → List ℕ → Entry
+entryAt at c = record { node = getD c at 0; type = getD c (at + 1) 0; name = part (at + 4) (getD c (at + 2) 0) c }
+
+-- the entries from the byte `at` on, `n` at most: "Unused entries are zero."
+unfoldable pub entriesIn : ℕ → ℕ → List ℕ → List Entry
+entriesIn zero at c = []
+entriesIn (suc n) at c = cond (eqb (getD c at 0) 0) [] (entryAt at c ∷ entriesIn n (at + entrySize) c)
+
+abbrev pub listedBy : Lent → List Entry
+listedBy l = entriesIn mostEntries 0 (outcome l .cancel)
+
+-- the entries of one node, and the entry that lists a node of the record with a type
+unfoldable pub ofNode : Slot → List Entry → List Entry
+ofNode slot [] = []
+ofNode slot (e ∷ es) = cond (eqb (e .node) (slot .number)) (e ∷ ofNode slot es) (ofNode slot es)
+
+abbrev pub listing : Slot → ℕ → List ℕ → Entry
+listing slot type r = record { node = slot .number; type = type; name = nameOf slot r }
+
+-- ---- the answer
+
+abbrev pub answerOf : Lent → List ℕ
+answerOf l = take (outcome l .size) (outcome l .answer)
+
+-- Result-Code and Experimental-Result-Code as the answer's bytes have them, 0 for the one that it does not hold
+unfoldable pub codesIn : List ℕ → List ℕ
+codesIn a =
+    numberOf resultCode a ∷
+    numAt 4 (bodyFound (find experimentalResultCode (inside (find experimentalResult (avpsOf a))))) 0 ∷
+    []
+
+-- the bytes that the first AVP of the key takes, 0 where there is none
+unfoldable pub sizeFound : Option Placed → ℕ
+sizeFound none = 0
+sizeFound (some p) = sizeOf (p .avp)
+
+unfoldable pub sizeIn : Key → List ℕ → ℕ
+sizeIn key a = sizeFound (find key (avpsOf a))

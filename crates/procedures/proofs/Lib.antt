@@ -1,0 +1,4 @@
+pub mod NodeLaws
+pub mod ListLaws
+pub mod AskedLaws
+pub mod VerdictLaws

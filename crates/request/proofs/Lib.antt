@@ -1,0 +1,6 @@
+pub mod ChainLaws
+pub mod HeldLaws
+pub mod JudgeLaws
+pub mod PlaceLaws
+pub mod ProfileLaws
+pub mod TestLaws

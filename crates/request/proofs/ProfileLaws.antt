@@ -1,0 +1,101 @@
+-- The profile's code against the paper's list of commands: codes that are no command, and keys as numbers.
+-- Assumes nothing.
+use mathlib.Core.Path.{_≡_, refl, sym, _∙_}
+use mathlib.Core.Bool.{Bool, true, false, _&&_, _||_}
+use mathlib.Core.Option.{none}
+use mathlib.Core.List.{List, [], _∷_, map}
+use Prim.Native.Nat.{ℕ, _+_, _*_, _/_, _%_, _≤_, _<_}
+use native.Mathlib.Numerals.{add-one}
+use native.Mathlib.Omega.{arith}
+use lib.Dec.{eqb}
+use lib.ListN.{length, drop, getD, drop-of-length-le}
+use lib.Seq.{drop-cons}
+use borrow.Author.Tests.{eq-eqb, ne-eqb, eqb-true, eqb-false}
+use Rattle.dictionary.specs.Rows.{keyOf}
+use Rattle.paper.specs.Profile.{Key, commandIn, commandOf, commands, ulr, pur, nor, ulrFlags, purFlags, norFlags}
+use Rattle.paper.specs.Find.{member}
+use Rattle.paper.specs.Request.{keyNumber, has, usedIn, requiredIn}
+use Rattle.paper.specs.Asked.{flagsKey}
+use Rattle.request.specs.Profile.{rowOf, keyAt}
+use Rattle.request.specs.declared.profile.Command.{Command}
+use Rattle.request.specs.declared.profile.Command.the-variants.{Ulr, Pur, Nor, Other}
+
+module _ (code : ℕ) where
+  pub no-command : (code ≡ ulr → ⊥) → (code ≡ pur → ⊥) → (code ≡ nor → ⊥) → none ≡ commandOf code
+  unfolding commandOf commands commandIn
+  no-command a b d = simp (ne-eqb ulr code (λ e. a (sym e)), ne-eqb pur code (λ e. b (sym e)), ne-eqb nor code (λ e. d (sym e)))
+
+  pub flags-of-ulr : code ≡ ulr → ulrFlags ≡ flagsKey code
+  unfolding flagsKey
+  flags-of-ulr e = rw (eq-eqb code ulr e)
+
+  pub flags-of-pur : (code ≡ ulr → ⊥) → code ≡ pur → purFlags ≡ flagsKey code
+  unfolding flagsKey
+  flags-of-pur a e = rw (ne-eqb code ulr a, eq-eqb code pur e)
+
+  pub flags-of-others : (code ≡ ulr → ⊥) → (code ≡ pur → ⊥) → norFlags ≡ flagsKey code
+  unfolding flagsKey
+  flags-of-others a b = rw (ne-eqb code ulr a, ne-eqb code pur b)
+
+-- ---- keys as numbers
+
+-- every code of the list fits its half of the number
+abbrev Narrow : List Key → Type 0
+Narrow [] = Unit {0}
+Narrow (k ∷ ks) = (k .code < 4294967296) × Narrow ks
+
+used-narrow : (c : Command) → Narrow (usedIn (rowOf c))
+unfolding commandOf commands commandIn usedIn
+used-narrow Ulr = (omega arith, (omega arith, (omega arith, (omega arith, (omega arith, (omega arith, (omega arith, (omega arith, (omega arith, (omega arith, tt))))))))))
+used-narrow Pur = (omega arith, (omega arith, (omega arith, (omega arith, (omega arith, (omega arith, (omega arith, tt)))))))
+used-narrow Nor = (omega arith, (omega arith, (omega arith, (omega arith, (omega arith, (omega arith, (omega arith, (omega arith, tt))))))))
+used-narrow Other = tt
+
+-- a number is a key's where its two halves are the key's
+key-halves : (n : ℕ) (k : Key) → k .code < 4294967296 → eqb n (keyNumber k) ≡ eqb (n / 4294967296) (k .vendor) && eqb (n % 4294967296) (k .code)
+unfolding keyOf
+key-halves n k h = go (eqb n (keyNumber k)) refl
+  where
+    vendors : (b : Bool) → eqb (n / 4294967296) (k .vendor) ≡ b → (n ≡ k .vendor * 4294967296 + k .code → ⊥) → false ≡ b && eqb (n % 4294967296) (k .code)
+    vendors true e f = sym (ne-eqb (n % 4294967296) (k .code) (λ g. let v = eqb-true (n / 4294967296) (k .vendor) e in f (omega arith)))
+    vendors false e f = refl
+
+    go : (b : Bool) → eqb n (keyNumber k) ≡ b → b ≡ eqb (n / 4294967296) (k .vendor) && eqb (n % 4294967296) (k .code)
+    go true e =
+        let f : n ≡ k .vendor * 4294967296 + k .code = eqb-true n _ e in
+        rw (eq-eqb (n / 4294967296) (k .vendor) (omega arith), eq-eqb (n % 4294967296) (k .code) (omega arith))
+    go false e = vendors (eqb (n / 4294967296) (k .vendor)) refl (eqb-false n _ e)
+
+member-has : (n : ℕ) (ks : List Key) → Narrow ks → member n (map keyNumber ks) ≡ has (keyAt n) ks
+unfolding member has
+member-has n [] h = refl
+member-has n (k ∷ ks) h = rw (key-halves n k (h .0), member-has n ks (h .1))
+
+-- a number is among those of a command's keys where its key is one that the command uses
+pub member-used : (n : ℕ) (c : Command) → member n (map keyNumber (usedIn (rowOf c))) ≡ has (keyAt n) (usedIn (rowOf c))
+member-used n c = member-has n (usedIn (rowOf c)) (used-narrow c)
+
+-- the keys that a command requires come back from their numbers
+pub required-back : (c : Command) → map keyAt (map keyNumber (requiredIn (rowOf c))) ≡ requiredIn (rowOf c)
+unfolding commandOf commands commandIn requiredIn keyOf
+required-back Ulr = refl
+required-back Pur = refl
+required-back Nor = refl
+required-back Other = refl
+
+-- ---- a walk over keys
+
+module _ (k : ℕ) (keys : List ℕ) (i : ℕ) where
+  among-step : i < length keys → member k (drop i keys) ≡ eqb k (getD keys i 0) || member k (drop (i + 1) keys)
+  unfolding member
+  among-step h = rw (add-one, drop-cons keys i 0)
+
+  pub among-here : i < length keys → {b : Bool} → b ≡ member k (drop i keys) → k ≡ getD keys i 0 → true ≡ b
+  among-here h e q = sym (e ∙ among-step h ∙ rw (eq-eqb k (getD keys i 0) q))
+
+  pub among-later : i < length keys → {b : Bool} → b ≡ member k (drop i keys) → (k ≡ getD keys i 0 → ⊥) → b ≡ member k (drop (i + 1) keys)
+  among-later h e q = e ∙ among-step h ∙ rw (ne-eqb k (getD keys i 0) q)
+
+  pub among-none : length keys ≤ i → {b : Bool} → b ≡ member k (drop i keys) → false ≡ b
+  unfolding member
+  among-none h e = sym (e ∙ rw (drop-of-length-le keys h))

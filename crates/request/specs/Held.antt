@@ -1,0 +1,23 @@
+-- What a request holds, by places: the command that code goes by, and lists of AVPs where they stand.
+-- Assumes nothing.
+use mathlib.Core.Path.{_≡_}
+use mathlib.Core.List.{List}
+use Prim.Native.Nat.{ℕ, _≤_}
+use lib.ListN.{length}
+use Rattle.paper.specs.Reader.{Avps}
+use Rattle.paper.specs.Profile.{commandOf}
+use Rattle.paper.specs.Request.{commandCode}
+use Rattle.request.specs.declared.place.Span.{Span}
+use Rattle.request.specs.declared.profile.Command.{Command}
+use Rattle.request.specs.Place.{InMessage, avpsIn}
+use Rattle.request.specs.Profile.{rowOf}
+
+-- the message has a whole header, and `c` is its command
+pub record Ready (m : List ℕ) (c : Command) : Type 0 where
+  pub long : 20 ≤ length m
+  pub own : rowOf c ≡ commandOf (commandCode m)
+
+-- `l` is the list of AVPs that stands at the stretch `s` of `m`
+pub record Frames (m : List ℕ) (l : Avps) (s : Span) : Type 0 where
+  pub inside : InMessage m s
+  pub same : avpsIn m s ≡ l

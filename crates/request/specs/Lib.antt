@@ -1,0 +1,5 @@
+pub mod Accepted
+pub mod Held
+pub mod Place
+pub mod Profile
+pub mod Test

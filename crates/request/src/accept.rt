@@ -1,0 +1,74 @@
+// What an accepted request asks: the numbers that the procedures go by, and where its names and digits stand.
+ghost use mathlib.Core.Path.{_≡_};
+ghost use Prim.Native.Nat.{_≤_};
+ghost use lib.ListN.{length};
+ghost use Rattle.paper.specs.Request.{valueOf};
+ghost use Rattle.paper.specs.Asked.{askedOf};
+ghost use Rattle.request.specs.Profile.{keyAt};
+ghost use Rattle.request.specs.Accepted.{SpanOf, Accepts};
+use crate::held::all_avps;
+use crate::held::find_imei;
+use crate::place::Span;
+use crate::place::find_in;
+use crate::place::is_there;
+use crate::place::number_of;
+use crate::place::span_of;
+use crate::profile::ORIGIN_HOST;
+use crate::profile::RAT_TYPE;
+use crate::profile::USER_NAME;
+use crate::profile::VISITED_PLMN_ID;
+use crate::profile::command_of;
+use crate::profile::flags_key;
+use paper::Asked;
+use reader::header::read_header;
+
+pub struct Accepted {
+    pub asked: Asked,
+    pub user_name: Span,
+    pub origin_host: Span,
+    pub visited_plmn: Span,
+    pub imei: Span,
+}
+
+fn asked_of(m: &[u8]) -> Asked
+    requires { ⌜ 20 ≤ length (now m) ⌝ }
+    ensures { λ r. ⌜ r ≡ askedOf (now (m .entry)) ⌝ }
+{
+    let h = read_header(m);
+    let command = h.command;
+    let list = all_avps(m);
+    let rat = find_in(m, list, RAT_TYPE);
+    let flags = find_in(m, list, flags_key(command));
+    let imei = find_imei(m, command_of(command));
+    Asked {
+        command,
+        rat: number_of(m, rat),
+        flags: number_of(m, flags),
+        has_flags: is_there(flags),
+        has_imei: is_there(imei),
+    }
+}
+
+// Where the data of the first AVP of a key stands.
+fn value_of(m: &[u8], key: u64) -> Span
+    requires { ⌜ 20 ≤ length (now m) ⌝ }
+    ensures { λ r. ⌜ SpanOf (now (m .entry)) (valueOf (keyAt key) (now (m .entry))) r ⌝ }
+{
+    span_of(find_in(m, all_avps(m), key))
+}
+
+// What the request `m` asks. Of a request that is refused the places are right as well, with no bytes where an AVP is absent.
+pub fn accept(m: &[u8]) -> Accepted
+    requires { ⌜ 20 ≤ length (now m) ⌝ }
+    ensures { λ r. ⌜ Accepts (now (m .entry)) r ⌝ }
+{
+    let h = read_header(m);
+    let imei = find_imei(m, command_of(h.command));
+    Accepted {
+        asked: asked_of(m),
+        user_name: value_of(m, USER_NAME),
+        origin_host: value_of(m, ORIGIN_HOST),
+        visited_plmn: value_of(m, VISITED_PLMN_ID),
+        imei: span_of(imei),
+    }
+}

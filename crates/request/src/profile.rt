@@ -1,0 +1,162 @@
+// The application as data: its number, its commands, and the AVPs that each command requires and uses. No other file of code has these numbers.
+// A key is one number, vendor * 2^32 + code, as in the dictionary; 3GPP is vendor 10415.
+ghost use mathlib.Core.Path.{_≡_};
+ghost use Rattle.paper.specs.Find.{member};
+ghost use Rattle.paper.specs.Profile.{commandOf};
+ghost use Rattle.paper.specs.Request.{has, usedIn};
+ghost use Rattle.paper.specs.Asked.{flagsKey};
+ghost use Rattle.request.specs.Profile.{rowOf, keyAt, Lists};
+
+pub const APPLICATION: u32 = 16777251;
+
+const ULR: u32 = 316;
+
+const PUR: u32 = 321;
+
+const NOR: u32 = 323;
+
+const TGPP: u64 = 10415 * 4294967296;
+
+const SESSION_ID: u64 = 263;
+
+const AUTH_SESSION_STATE: u64 = 277;
+
+pub const ORIGIN_HOST: u64 = 264;
+
+const ORIGIN_REALM: u64 = 296;
+
+const DESTINATION_REALM: u64 = 283;
+
+pub const USER_NAME: u64 = 1;
+
+pub const RAT_TYPE: u64 = TGPP + 1032;
+
+const ULR_FLAGS: u64 = TGPP + 1405;
+
+pub const VISITED_PLMN_ID: u64 = TGPP + 1407;
+
+const PUR_FLAGS: u64 = TGPP + 1635;
+
+const NOR_FLAGS: u64 = TGPP + 1443;
+
+pub const TERMINAL_INFORMATION: u64 = TGPP + 1401;
+
+pub const IMEI: u64 = TGPP + 1402;
+
+pub enum Command {
+    Ulr,
+    Pur,
+    Nor,
+    Other,
+}
+
+// The keys of a command: the first `required` of `all` are required, in the order of 5005; the first `used` are used, and 5009 goes by these.
+pub struct Keys {
+    pub required: usize,
+    pub used: usize,
+    pub all: [u64; 10],
+}
+
+pub fn command_of(code: u32) -> Command
+    ensures { λ r. ⌜ rowOf r ≡ commandOf code ⌝ }
+{
+    if code == ULR {
+        return Command::Ulr;
+    }
+    if code == PUR {
+        return Command::Pur;
+    }
+    if code == NOR {
+        return Command::Nor;
+    }
+    Command::Other
+}
+
+pub fn keys_of(c: Command) -> Keys
+    ensures { λ r. ⌜ Lists r (rowOf c) ⌝ }
+{
+    let mut all = [
+        SESSION_ID,
+        AUTH_SESSION_STATE,
+        ORIGIN_HOST,
+        ORIGIN_REALM,
+        DESTINATION_REALM,
+        USER_NAME,
+        0,
+        0,
+        0,
+        0,
+    ];
+    match c {
+        Command::Ulr => {
+            all[6] = RAT_TYPE;
+            all[7] = ULR_FLAGS;
+            all[8] = VISITED_PLMN_ID;
+            all[9] = TERMINAL_INFORMATION;
+            Keys {
+                required: 9,
+                used: 10,
+                all,
+            }
+        }
+        Command::Pur => {
+            all[6] = PUR_FLAGS;
+            Keys {
+                required: 6,
+                used: 7,
+                all,
+            }
+        }
+        Command::Nor => {
+            all[6] = NOR_FLAGS;
+            all[7] = TERMINAL_INFORMATION;
+            Keys {
+                required: 6,
+                used: 8,
+                all,
+            }
+        }
+        Command::Other => Keys {
+            required: 0,
+            used: 0,
+            all,
+        },
+    }
+}
+
+// The flag word that a command has of its own.
+pub fn flags_key(code: u32) -> u64
+    ensures { λ r. ⌜ keyAt r ≡ flagsKey code ⌝ }
+{
+    if code == ULR {
+        return ULR_FLAGS;
+    }
+    if code == PUR {
+        return PUR_FLAGS;
+    }
+    NOR_FLAGS
+}
+
+// The key is among these.
+fn is_among(key: u64, keys: &[u64]) -> bool
+    ensures { λ r. ⌜ r ≡ member key (now (keys .entry)) ⌝ }
+{
+    let mut i = 0;
+    while i < keys.len() {
+        if key == keys[i] {
+            return true;
+        }
+        i += 1;
+    }
+    false
+}
+
+// The command uses the AVP of this key.
+pub fn uses(c: Command, key: u64) -> bool
+    ensures { λ r. ⌜ r ≡ has (keyAt key) (usedIn (rowOf c)) ⌝ }
+{
+    let keys = keys_of(c);
+    let all = keys.all;
+    let n = keys.used;
+    is_among(key, &all[..n])
+}
