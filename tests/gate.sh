@@ -31,6 +31,9 @@ run_test corrections "20,000 generated corrections through the C library and the
 run_test library-named "named cases, by the C library" named_cases "${x86_run[@]}" build/harness
 run_test library-cases "50,000 generated cases through the C library and the second program" compare_cases build/second gen 1 50000
 run_test runs "200 runs of 500 requests and corrections in a row" compare_cases build/second runs 1 200 500
+run_test widened-damaged "the test of widened requests refuses damaged pairs and results" python3 tests/widened_test.py
+run_test widened "20,000 widenings of accepted requests change nothing, by the C library" compare_widened widened 1 20000
+run_test widened-mandatory "5,000 widenings with a mandatory AVP are refused with 5001, by the C library" compare_widened widened-mandatory 1 5000
 run_test answers "every answer of 50,000 cases is read by the compiled message reader without a fault" answers_read 1 50000
 
 echo "$passed passed, $failed failed"

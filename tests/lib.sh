@@ -91,6 +91,12 @@ compare_cases() { # MAKER..
     [ "$ours" = "$theirs" ] && [ "$ours" != "$(sha256sum </dev/null)" ]
 }
 
+# Demand 3 on pairs of an accepted request and a widening of it: the library's two results against each other (or against the refusal that an added
+# mandatory AVP asks for), what was widened tallied, and all results against the second program's.
+compare_widened() { # MAKER SEED PAIRS
+    python3 tests/widened.py "$1" "$3" <(build/second "$@") <(build/second "$@" | "${x86_run[@]}" build/harness) && compare_cases build/second "$@"
+}
+
 # Every answer of generated cases, made by the library and read by the compiled message reader: no fault, no unknown mandatory AVP.
 answers_read() { # SEED COUNT
     python3 tests/answers.py <(build/second gen "$1" "$2") <(build/second gen "$1" "$2" | "${x86_run[@]}" build/harness) |

@@ -10,6 +10,8 @@ mod content;
 mod correction;
 #[path = "gen_damage.rs"]
 mod damage;
+#[path = "gen_draft.rs"]
+mod draft;
 #[path = "gen_frame.rs"]
 mod frame;
 #[path = "gen_keys.rs"]
@@ -20,6 +22,8 @@ mod request;
 mod table;
 #[path = "gen_visit.rs"]
 mod visit;
+#[path = "gen_widen.rs"]
+mod widen;
 
 use crate::build::Record;
 use crate::dictionary::Dictionary;
@@ -61,6 +65,18 @@ pub fn runs(dictionary: &Dictionary, seed: u64, runs: u64, steps: u64, out: &mut
             write_case(out, &case)?;
             records = crate::build::records(&table_after(dictionary, &case));
         }
+    }
+    Ok(())
+}
+
+/// `second widened SEED PAIRS`, `second widened-mandatory SEED PAIRS`: requests, each followed by a widening of it.
+pub fn widened(dictionary: &Dictionary, seed: u64, pairs: u64, mandatory: bool, out: &mut impl Write) -> io::Result<()> {
+    let keys = Keys::new(dictionary);
+    let mut random = Random::new(seed);
+    for _ in 0..pairs {
+        let (first, second) = widen::pair(&mut random, &keys, dictionary, mandatory);
+        write_case(out, &first)?;
+        write_case(out, &second)?;
     }
     Ok(())
 }

@@ -46,10 +46,14 @@ impl Piece {
         Piece::new(random, key.vendor, key.code, Body::Group(inner))
     }
 
-    /// Whether this AVP has that key in the reader's sense: vendor 0 without V.
-    pub fn has(&self, key: Key) -> bool {
+    /// Vendor and code in the reader's sense: vendor 0 without V.
+    pub fn key(&self) -> (u32, u32) {
         let vendor = if self.flags & V != 0 { self.vendor } else { 0 };
-        (vendor, self.code) == (key.vendor, key.code)
+        (vendor, self.code)
+    }
+
+    pub fn has(&self, key: Key) -> bool {
+        self.key() == (key.vendor, key.code)
     }
 
     pub fn data(&self) -> Vec<u8> {

@@ -3,7 +3,7 @@
 
 use crate::dictionary::{Dictionary, Kind};
 use crate::random::Random;
-use std::collections::{BTreeMap, BTreeSet};
+use std::collections::BTreeMap;
 
 /// The vendor of TS 29.272.
 pub const TGPP: u32 = 10415;
@@ -78,7 +78,7 @@ pub struct Keys {
     pub fours: Vec<Key>,
     pub eights: Vec<Key>,
     names: BTreeMap<String, Key>,
-    pairs: BTreeSet<(u32, u32)>,
+    kinds: BTreeMap<(u32, u32), Kind>,
 }
 
 impl Keys {
@@ -99,7 +99,7 @@ impl Keys {
             closed: of(Kind::Closed),
             fours: of(Kind::Four),
             eights: of(Kind::Eight),
-            pairs: known.iter().map(|key| (key.vendor, key.code)).collect(),
+            kinds: known.iter().map(|key| ((key.vendor, key.code), key.kind)).collect(),
             names,
             known,
         }
@@ -108,6 +108,11 @@ impl Keys {
     /// The key with this name, which is one of the dictionary's.
     pub fn named(&self, name: &str) -> Key {
         self.names[name]
+    }
+
+    /// The kind of a (vendor, code), if it has a row.
+    pub fn kind(&self, pair: (u32, u32)) -> Option<Kind> {
+        self.kinds.get(&pair).copied()
     }
 
     /// Any known key that the command neither uses nor copies.
@@ -139,7 +144,7 @@ impl Keys {
                 4 => (near.vendor, near.code.wrapping_add(random.pick(&[1, 0xFFFF_FFFF, 0x0100_0000]))),
                 _ => (random.pick(&[0, TGPP]), random.number()),
             };
-            if !self.pairs.contains(&pair) {
+            if self.kind(pair).is_none() {
                 return pair;
             }
         }

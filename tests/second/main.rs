@@ -22,7 +22,7 @@ mod tests;
 use dictionary::Dictionary;
 use std::io::{self, BufReader, BufWriter, Read, StdinLock, Write};
 
-const USAGE: &str = "usage: second cases | desk | read | gen SEED COUNT | corrections SEED COUNT | runs SEED RUNS STEPS | tally | named FILE | expected FILE";
+const USAGE: &str = "usage: second cases | desk | read | gen SEED COUNT | corrections SEED COUNT | runs SEED RUNS STEPS | widened SEED PAIRS | widened-mandatory SEED PAIRS | tally | named FILE | expected FILE";
 
 fn main() {
     let words: Vec<String> = std::env::args().skip(1).collect();
@@ -52,6 +52,8 @@ fn run(dictionary: &Dictionary, words: &[&str]) -> io::Result<i32> {
         ["gen", seed, count] => gen::run(dictionary, whole(seed)?, whole(count)?, &mut out)?,
         ["corrections", seed, count] => gen::corrections(whole(seed)?, whole(count)?, &mut out)?,
         ["runs", seed, runs, steps] => gen::runs(dictionary, whole(seed)?, whole(runs)?, whole(steps)?, &mut out)?,
+        ["widened", seed, pairs] => gen::widened(dictionary, whole(seed)?, whole(pairs)?, false, &mut out)?,
+        ["widened-mandatory", seed, pairs] => gen::widened(dictionary, whole(seed)?, whole(pairs)?, true, &mut out)?,
         ["tally"] => return Ok(tally::run(dictionary, &mut input)),
         ["named", file] => named::emit(dictionary, file)?,
         ["expected", file] => return Ok(named::compare(dictionary, file, &mut input)),

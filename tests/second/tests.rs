@@ -984,6 +984,57 @@ fn the_desk_ends_at_a_bad_frame() {
     assert_eq!(desk_lines(&frame(2, &[0; 65531])), "1 X 0 0 0\n");
 }
 
+// Demand 3: requests of newer nodes.
+
+/// A ULR on S6a that displaces MME a, with an IMEI and a Proxy-Info; `unknown` stands before, between, after and in its AVPs, and `bits` are set
+/// in the flags of its header and AVPs.
+fn newer_ulr(unknown: &[u8], bits: u8, word: u32) -> Vec<u8> {
+    let terminal = avp("Terminal-Information", &[unknown, &avp("IMEI", b"12345678901234")[..], unknown].concat());
+    let mut avps = ulr("b", S6A | word, 1004);
+    avps.extend([terminal, avp("Proxy-Info", b"xyz")]);
+    for avp in &mut avps {
+        avp[4] |= bits;
+    }
+    let between = avps.iter().flat_map(|avp| [&avp[..], unknown].concat());
+    let stretch: Vec<u8> = unknown.iter().copied().chain(between).collect();
+    build::message(0xC0 | bits & 0x1F, ULR, APPLICATION, 1, 2, &stretch)
+}
+
+#[test]
+fn what_a_newer_node_adds_changes_nothing() {
+    let plain = ask(&[nodes("a", "", 0)], newer_ulr(&[], 0, 0));
+    assert_eq!((plain.code().as_str(), plain.entries()), ("2001", vec![entry(1, 0, "a")]));
+    let newer = ask(&[nodes("a", "", 0)], newer_ulr(&build::avp(5000, V | 0x3F, 10415, b"new"), 0x3F, 0xFFFF_FFD8));
+    assert!((plain.answer, plain.after, plain.cancel) == (newer.answer, newer.after, newer.cancel));
+}
+
+#[test]
+fn an_added_avp_with_m_is_refused() {
+    let unknown = build::avp(5000, V | M | 0x3F, 10415, b"new");
+    let newer = ask(&[nodes("a", "", 0)], newer_ulr(&unknown, 0, 0));
+    assert_eq!((newer.code().as_str(), newer.entries()), ("5001", Vec::new()));
+    assert_eq!(newer.codes(), [263, 268, 277, 264, 296, 279, 284]);
+    assert_eq!((newer.data(279), newer.unchanged()), (Some(unknown), true));
+}
+
+/// The outcomes of generated pairs, and the notes of their second requests.
+fn generated_pairs(mandatory: bool) -> Vec<(Outcome, Outcome, Vec<String>)> {
+    let mut bytes = Vec::new();
+    crate::gen::widened(dictionary(), 3, 200, mandatory, &mut bytes).unwrap();
+    let mut input = &bytes[..];
+    let mut judged = move || protocol::read_case(&mut input).unwrap().map(|case| judge(dictionary(), &case));
+    let pair = || Some((judged()?.outcome, judged()?));
+    std::iter::from_fn(pair).map(|(first, second)| (first, second.outcome, second.notes)).collect()
+}
+
+#[test]
+fn generated_widenings_come_to_the_same_or_to_5001() {
+    let (same, refused) = (generated_pairs(false), generated_pairs(true));
+    assert_eq!((same.len(), refused.len()), (200, 200));
+    assert!(same.iter().all(|(first, second, _)| first == second));
+    assert!(refused.iter().all(|(first, second, notes)| first != second && notes[0].starts_with("5001 ")));
+}
+
 // The message reader and the protocol.
 
 #[test]
