@@ -6,6 +6,8 @@ import struct
 
 HEADER = 20
 V, M = 0x80, 0x40
+# The bits of flag words that 01 uses, clauses 7.3.7, 7.3.149 and 7.3.49.
+NAMED_BITS = {"ULR-Flags": 0x27, "PUR-Flags": 0x03, "NOR-Flags": 0x01}
 
 
 class Refused(Exception):

@@ -10,7 +10,7 @@ import sys
 from collections import Counter
 
 import widened_rows
-from messages import HEADER, M, Case, Reader, Refused, Result, avp_bytes, load_dictionary, number
+from messages import HEADER, NAMED_BITS, M, Case, Reader, Refused, Result, avp_bytes, load_dictionary, number
 
 COMMANDS = {316: "ULR", 321: "PUR", 323: "NOR"}
 ALWAYS = {"Session-Id", "Auth-Session-State", "Origin-Host", "Origin-Realm", "Destination-Realm", "User-Name", "Proxy-Info"}
@@ -19,8 +19,6 @@ USED = {
     "PUR": ALWAYS | {"PUR-Flags"},
     "NOR": ALWAYS | {"NOR-Flags", "Terminal-Information"},
 }
-# The bits with a use, clauses 7.3.7, 7.3.149 and 7.3.49.
-NAMED_BITS = {"ULR-Flags": 0x27, "PUR-Flags": 0x03, "NOR-Flags": 0x01}
 MOST, CANCEL = 4096, 136
 
 

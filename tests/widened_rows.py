@@ -4,11 +4,9 @@ A row that comes up fewer than 20 times, or that no list names, fails: the pairs
 """
 from collections import Counter
 
-from messages import M, V
+from messages import NAMED_BITS, M, V
 
 LEAST = 20
-OTHERS_WORDS = {"ULR": ("PUR-Flags", "NOR-Flags"), "PUR": ("ULR-Flags", "NOR-Flags"), "NOR": ("ULR-Flags", "PUR-Flags")}
-SPARE = {"ULR-Flags": ~0x27, "PUR-Flags": ~0x03, "NOR-Flags": ~0x01}
 VENDOR = 10415
 
 OUTCOMES = [
@@ -31,8 +29,8 @@ WIDENING = OUTCOMES + ["unknown: " + row for row in UNKNOWN] + [
     *(f"flags of {name}" for name in (
         "Session-Id", "Auth-Session-State", "Origin-Host", "Origin-Realm", "Destination-Realm", "User-Name", "RAT-Type", "ULR-Flags",
         "Visited-PLMN-Id", "PUR-Flags", "NOR-Flags", "Terminal-Information", "Proxy-Info", "IMEI")),
-    *(f"{word} bit {bit}" for word, spare in SPARE.items() for bit in range(32) if spare >> bit & 1),
-    *(f"{word} where another command uses it" for word in SPARE),
+    *(f"{word} bit {bit}" for word, named in NAMED_BITS.items() for bit in range(32) if not named >> bit & 1),
+    *(f"{word} where another command uses it" for word in NAMED_BITS),
     "V with vendor 0, used", "padding of a used AVP", "padding of Session-Id", "padding of Proxy-Info",
     "Feature-List changed", "DSR-Flags changed", "data of an unused AVP", "size of unused data",
     "put in: Feature-List", "put in: DSR-Flags", "put in: Supported-Features", "put in: a group", "put in: top level", "put in: in a group",
@@ -114,35 +112,34 @@ def of_widening(reader, before, after):
 
 
 class Difference:
-    """Compares lists key by key: where as many of a key stand in both, they are taken to be the same AVPs in order; else some were put in or taken out."""
+    """Compares lists key by key. Where both have as many AVPs of a key, these are taken to be the same in order; else some were put in or taken out."""
 
     def __init__(self, reader, request, rows):
         self.reader, self.request, self.rows = reader, request, rows
 
     def of_lists(self, before, after, groups):
         for key in {avp.key for avp in before + after}:
-            old, new = ([avp for avp in avps if avp.key == key] for avps in (before, after))
-            if len(old) == len(new):
-                for one, other in zip(old, new):
+            had, has = ([avp for avp in avps if avp.key == key] for avps in (before, after))
+            if len(had) == len(has):
+                for one, other in zip(had, has):
                     self.of_kept(one, other, groups)
-            elif len(new) < len(old):
-                self.of_taken_out(old[0], groups)
+            elif len(has) < len(had):
+                self.of_taken_out(had[0], groups)
             else:
-                self.of_put_in(old, new, after, groups)
+                self.of_put_in(had, has, after, groups)
 
-    def of_put_in(self, old, new, after, groups):
-        """Those that are not there before, or the last ones where all look alike."""
-        there = [avp.data for avp in old]
-        strange = [avp for avp in new if avp.data not in there] or new[len(old):]
-        for avp in strange[:len(new) - len(old)]:
+    def of_put_in(self, had, has, after, groups):
+        """Those whose data was not there, or the last ones where all look alike."""
+        there = [avp.data for avp in had]
+        strange = [avp for avp in has if avp.data not in there] or has[len(had):]
+        for avp in strange[:len(has) - len(had)]:
             if avp.name is None:
                 rows = of_unknown(self.reader, avp, groups, after.index(avp), after)
                 self.rows += ["unknown: " + row for row in rows]
-                self.rows += ["unknown: one with the key of another"] * (len(new) > 1)
-                continue
-            self.of_known(avp, groups)
-            if avp.inner:
-                self.of_lists([], avp.inner, groups + (avp,))
+                self.rows += ["unknown: one with the key of another"] * (len(has) > 1)
+            else:
+                self.of_known(avp, groups)
+                self.of_lists([], avp.inner or [], groups + (avp,))
 
     def of_known(self, avp, groups):
         yes = {
@@ -154,7 +151,7 @@ class Difference:
             "put in: IMEI outside Terminal-Information": avp.name == "IMEI",
             "put in: Proxy-Info in a group": avp.name == "Proxy-Info",
             "put in: Terminal-Information in a PUR": avp.name == "Terminal-Information" and not groups,
-            f"{avp.name} where another command uses it": not groups and avp.name in OTHERS_WORDS[self.request.command],
+            f"{avp.name} where another command uses it": self.is_others_word(avp, groups),
         }
         self.rows += [row for row, holds in yes.items() if holds]
 
@@ -166,9 +163,13 @@ class Difference:
         self.rows += ["taken out: a group"] * (avp.inner is not None)
 
     def uses(self, avp, groups):
-        if groups:
-            return avp.name == "IMEI" and len(groups) == 1 and groups[0].name == "Terminal-Information" in self.request.used
-        return avp.name in self.request.used
+        if not groups:
+            return avp.name in self.request.used
+        in_terminal = len(groups) == 1 and groups[0].name == "Terminal-Information"
+        return avp.name == "IMEI" and in_terminal and "Terminal-Information" in self.request.used
+
+    def is_others_word(self, avp, groups):
+        return not groups and avp.name in NAMED_BITS and avp.name not in self.request.used
 
     def of_kept(self, one, other, groups):
         used = self.uses(one, groups)
@@ -199,7 +200,7 @@ class Difference:
             padding = one.padding != other.padding
             named = one.name in ("Session-Id", "Proxy-Info")
             self.rows += ["padding of a used AVP"] * padding + [f"padding of {one.name}"] * (padding and named)
-            flips = one.word() ^ other.word() if one.name in SPARE else 0
+            flips = one.word() ^ other.word() if one.name in NAMED_BITS else 0
             self.rows += [f"{one.name} bit {bit}" for bit in range(32) if flips >> bit & 1]
         elif one.data != other.data and one.inner is None:
             yes = {
@@ -207,7 +208,7 @@ class Difference:
                 "data of an unused AVP": one.name is not None,
                 "size of unused data": one.name is not None and len(one.data) != len(other.data),
                 f"{one.name} changed": one.name in ("Feature-List", "DSR-Flags"),
-                f"{one.name} where another command uses it": not groups and one.name in OTHERS_WORDS[self.request.command],
+                f"{one.name} where another command uses it": self.is_others_word(one, groups),
             }
             self.rows += [row for row, holds in yes.items() if holds]
 

@@ -1,5 +1,5 @@
-"""widened_test.py: tests/widened.py refuses what it has to. Pairs and results of the second program are taken as they are, which has to pass, and then
-with one thing damaged, each of which has to be refused; so have streams that are cut, and a tally with a row too thin.
+"""widened_test.py: tests/widened.py refuses what it has to. Pairs and results of the second program pass as they are; with one thing
+damaged each has to be refused, and so has a stream that is cut and a tally with a row too thin.
 """
 import copy
 import io
@@ -106,18 +106,17 @@ def refused(action, *words):
 
 
 def check_kind(reader, maker, mandatory):
-    """Every damage to every pair of this maker, then to the streams. What was taken for right though it is wrong, and how often each was tried."""
+    """Every damage to every pair of this maker, then to the streams: the tally, how often each was tried, and which were taken for right."""
     cases = subprocess.run(["build/second", maker, SEED, str(PAIRS)], stdout=subprocess.PIPE, check=True).stdout
     results = subprocess.run(["build/second", "cases"], input=cases, stdout=subprocess.PIPE, check=True).stdout
-    streams = lambda cut_cases, cut_results: (io.BytesIO(cut_cases), io.BytesIO(cut_results), mandatory)
-    counts = widened.check(reader, PAIRS, *streams(cases, results))
+    counts = widened.check(reader, PAIRS, io.BytesIO(cases), io.BytesIO(results), mandatory)
     tried, taken = Counter(), []
     for pair in widened.pairs(io.BytesIO(cases), io.BytesIO(results)):
         for what, case, result in damages(reader, *pair, mandatory):
             tried[what] += 1
             if not refused(widened.check_pair, reader, case, result, mandatory):
                 taken.append(f"{maker}: {what}")
-    for what, wanted, *cut in (
+    for what, wanted, some_cases, some_results in (
         ("a pair too few", PAIRS + 1, cases, results),
         ("results cut", PAIRS, cases, results[:-1]),
         ("results too long", PAIRS, cases, results + b"\0"),
@@ -125,7 +124,7 @@ def check_kind(reader, maker, mandatory):
         ("no case at all", PAIRS, b"", b""),
     ):
         tried[what] += 1
-        if not refused(widened.check, reader, wanted, *streams(*cut)):
+        if not refused(widened.check, reader, wanted, io.BytesIO(some_cases), io.BytesIO(some_results), mandatory):
             taken.append(f"{maker}: {what}")
     return counts, tried, taken
 

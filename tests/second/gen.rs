@@ -70,7 +70,13 @@ pub fn runs(dictionary: &Dictionary, seed: u64, runs: u64, steps: u64, out: &mut
 }
 
 /// `second widened SEED PAIRS`, `second widened-mandatory SEED PAIRS`: requests, each followed by a widening of it.
-pub fn widened(dictionary: &Dictionary, seed: u64, pairs: u64, mandatory: bool, out: &mut impl Write) -> io::Result<()> {
+pub fn widened(
+    dictionary: &Dictionary,
+    seed: u64,
+    pairs: u64,
+    mandatory: bool,
+    out: &mut impl Write,
+) -> io::Result<()> {
     let keys = Keys::new(dictionary);
     let mut random = Random::new(seed);
     for _ in 0..pairs {

@@ -22,7 +22,9 @@ mod tests;
 use dictionary::Dictionary;
 use std::io::{self, BufReader, BufWriter, Read, StdinLock, Write};
 
-const USAGE: &str = "usage: second cases | desk | read | gen SEED COUNT | corrections SEED COUNT | runs SEED RUNS STEPS | widened SEED PAIRS | widened-mandatory SEED PAIRS | tally | named FILE | expected FILE";
+const USAGE: &str =
+    "usage: second cases | desk | read | gen SEED COUNT | corrections SEED COUNT | runs SEED RUNS STEPS \
+    | widened SEED PAIRS | widened-mandatory SEED PAIRS | tally | named FILE | expected FILE";
 
 fn main() {
     let words: Vec<String> = std::env::args().skip(1).collect();
