@@ -8,7 +8,8 @@ ghost use Rattle.wire.specs.Put.{Wrote};
 ghost use Rattle.paper.specs.Avp.{hasV, framed, avpOf, bareOf, asReceived};
 ghost use Rattle.paper.specs.Layout.{mostRequest};
 ghost use Rattle.paper.specs.Answer.{failedItem};
-ghost use Rattle.paper.specs.Shown.{absent, failedIn, Readable};
+ghost use Rattle.paper.specs.Shown.{absent, failedIn};
+ghost use Rattle.paper.specs.ShownIn.{ShownIn};
 ghost use Rattle.answer.specs.Parts.{shownBytes};
 use avp::cursor::Cursor;
 use avp::cursor::Step;
@@ -74,7 +75,7 @@ fn put_absent(out: &mut [u8], at: usize, vendor: u32, code: u32, four: bool) -> 
 
 // What Failed-AVP holds.
 fn put_shown(out: &mut [u8], at: usize, m: &[u8], failed: Failed) -> usize
-    requires { ⌜ (length (now m) ≤ mostRequest) × Readable (now m) failed × (at + (length (shownBytes (failedIn (now m) failed)) + 16) ≤ length (now out)) ⌝ }
+    requires { ⌜ (length (now m) ≤ mostRequest) × ShownIn (now m) failed × (at + (length (shownBytes (failedIn (now m) failed)) + 16) ≤ length (now out)) ⌝ }
     ensures { λ r. ⌜ Wrote (now (out .entry)) at (shownBytes (failedIn (now (m .entry)) failed)) (now (out .exit)) r ⌝ }
 {
     match failed {
@@ -87,7 +88,7 @@ fn put_shown(out: &mut [u8], at: usize, m: &[u8], failed: Failed) -> usize
 
 // Failed-AVP, where there is something to show.
 pub fn put_failed(out: &mut [u8], at: usize, m: &[u8], failed: Failed) -> usize
-    requires { ⌜ (length (now m) ≤ mostRequest) × Readable (now m) failed × (at + (length (shownBytes (failedIn (now m) failed)) + 24) ≤ length (now out)) ⌝ }
+    requires { ⌜ (length (now m) ≤ mostRequest) × ShownIn (now m) failed × (at + (length (shownBytes (failedIn (now m) failed)) + 24) ≤ length (now out)) ⌝ }
     ensures { λ r. ⌜ Wrote (now (out .entry)) at (failedItem (failedIn (now (m .entry)) failed)) (now (out .exit)) r ⌝ }
 {
     let start = at + 8;
