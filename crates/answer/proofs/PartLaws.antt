@@ -24,7 +24,8 @@ use Rattle.paper.specs.declared.Extra.the-variants as Extra
 use Rattle.paper.proofs.AvpLaws.{padded-least}
 use Rattle.paper.proofs.AnswerParts.{item-fours, fours-add, length-number}
 use Rattle.avp.specs.Written.{groupHead}
-use Rattle.avp.proofs.WriteLaws.{length-head, headSize-for, length-written, wrote-group, wrote-group-under}
+use Rattle.paper.proofs.WrittenLaws.{length-head}
+use Rattle.avp.proofs.WriteLaws.{headSize-for, length-written, wrote-group, wrote-group-under}
 use Rattle.answer.specs.Parts.{ownItems, ambrItem, ulaItems}
 
 -- ---- sizes
