@@ -20,6 +20,10 @@ run_test dictionary "docs/DICTIONARY.md and the crate's rows agree" python3 test
 run_test dictionary-damaged "the dictionary test refuses damaged copies" python3 tests/dictionary.py --self-test docs/DICTIONARY.md crates/dictionary
 run_test statements "every name that docs/STATEMENTS.md cites is there" python3 tests/statements.py
 run_test statements-damaged "the statements test refuses damaged copies" python3 tests/statements.py --self-test
+run_test numbers "the numbers of document 01 stand once, by name" python3 tests/numbers_once.py
+run_test numbers-damaged "the numbers test refuses damaged copies" python3 tests/numbers_once.py --self-test
+run_test contracts "every public function has an ensures, and no public call a requires" python3 tests/contracts.py
+run_test contracts-damaged "the contracts test refuses damaged copies" python3 tests/contracts.py --self-test
 run_test second "the second program compiles without a warning" build_second
 run_test second-unit "the second program's unit tests" unit_tests_of_second
 run_test second-named "named cases, by the second program" named_cases build/second cases

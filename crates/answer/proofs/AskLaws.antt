@@ -8,13 +8,13 @@ use lib.ListN.{length}
 use Rattle.paper.specs.Layout.{leastRequest, mostRequest, leastAnswer}
 use Rattle.paper.specs.Request.{isName}
 use Rattle.paper.specs.Answer.{Reply}
-use Rattle.paper.specs.Shown.{Readable}
+use Rattle.paper.specs.ShownIn.{ShownIn}
 use Rattle.paper.specs.declared.Failed.{Failed}
 use Rattle.paper.proofs.AnswerSizes.{ReplyTo, answer-bound, name-most}
 use Rattle.answer.specs.Ask.{AnswerAsk}
 
 pub answer-ask : (out m host realm : List ℕ) (failed : Failed) {y : Reply} → leastAnswer ≤ length out → leastRequest ≤ length m → length m ≤ mostRequest
-    → isName host ≡ true → isName realm ≡ true → Readable m failed → ReplyTo m y → AnswerAsk out m host realm failed y
+    → isName host ≡ true → isName realm ≡ true → ShownIn m failed → ReplyTo m y → AnswerAsk out m host realm failed y
 answer-ask out m host realm failed b l k h r f t =
     record {
       given = record { least = l; most = k; named = name-most host h; ruled = name-most realm r; readable = f };

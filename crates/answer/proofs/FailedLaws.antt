@@ -13,7 +13,9 @@ use Rattle.wire.proofs.PutLaws.{put-nil}
 use Rattle.paper.specs.Avp.{Avp, hasV, headSize, padded, sizeOf, flagsOf, codeOf, vendorOf, framed, avpOf, bareOf, asReceived, flagsFor, written}
 use Rattle.paper.specs.Profile.{failedAvp}
 use Rattle.paper.specs.Answer.{item, failedItem}
-use Rattle.paper.specs.Shown.{stretch, absent, failedIn, Readable}
+use Rattle.paper.specs.Shown.{stretch, absent, failedIn}
+use Rattle.paper.specs.Layout.{mostRequest}
+use Rattle.paper.specs.ShownIn.{LiesIn, ShownIn}
 use Rattle.paper.specs.declared.Failed.{Failed}
 use Rattle.paper.specs.declared.Failed.the-variants.{Nothing, Whole, Bare, Missing}
 use Rattle.paper.proofs.AvpLaws.{framed-least, framed-sizes, padded-least, padded-most, headSize-least, headSize-most, padded-fours}
@@ -48,10 +50,10 @@ module _ (m : List ℕ) {f : Failed} where
   unfolding failedIn shownBytes
   shown-missing e = rw e
 
-  pub readable-whole : {at to : ℕ} → f ≡ Whole at to → Readable m f → (at ≤ to) × (to ≤ length m) × (framed (stretch m at to) ≡ true)
+  pub readable-whole : {at to : ℕ} → f ≡ Whole at to → ShownIn m f → LiesIn m at to × (framed (stretch m at to) ≡ true)
   readable-whole e r = rw e at r
 
-  pub readable-bare : {at to : ℕ} → f ≡ Bare at to → Readable m f → (at ≤ to) × (to ≤ length m)
+  pub readable-bare : {at to : ℕ} → f ≡ Bare at to → ShownIn m f → LiesIn m at to
   readable-bare e r = rw e at r
 
 -- ---- the AVP at the front of a stretch
@@ -135,11 +137,11 @@ whole-most s e =
     let i = framed-sizes s e .inside in
     rw (length-as-received (avpOf s)) (omega arith)
 
-pub shown-most : (m : List ℕ) (f : Failed) → length m ≤ 4096 → Readable m f → length (shownBytes (failedIn m f)) ≤ 4096
+pub shown-most : (m : List ℕ) (f : Failed) → length m ≤ mostRequest → ShownIn m f → length (shownBytes (failedIn m f)) ≤ mostRequest
 unfolding shownBytes failedIn bareOf
 shown-most m Nothing h r = omega arith
 shown-most m (Whole at to) h r =
-    let w = whole-most (stretch m at to) (r .2) in
+    let w = whole-most (stretch m at to) (r .1) in
     let n : length (stretch m at to) ≤ length m = simp (length-take, length-drop) (omega arith) in
     omega arith
 shown-most m (Bare at to) h r = let s = stretch m at to in let l = length-bare (codeOf s) (flagsOf s) (vendorOf s) in omega arith

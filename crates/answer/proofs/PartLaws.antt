@@ -12,7 +12,7 @@ use Rattle.wire.specs.Number.{be}
 use Rattle.wire.specs.Put.{Wrote}
 use Rattle.wire.proofs.PutLaws.{wrote-then, wrote-same}
 use Rattle.paper.specs.Avp.{headSize, padded, flagsFor, vendorField, asReceived, written}
-use Rattle.paper.specs.Profile.{Key, authSessionState, originHost, originRealm, resultCode, vendorId, vendor3gpp, experimentalResult, experimentalResultCode, accessRestrictionData, subscriptionData, subscriberStatus, ulaFlags, puaFlags}
+use Rattle.paper.specs.Profile.{Key, authSessionState, originHost, originRealm, resultCode, accessRestrictionData, subscriptionData, subscriberStatus, ulaFlags, puaFlags}
 use Rattle.paper.specs.Answer.{item, numberItem, resultItem, restrictionItem, subscriptionOf}
 use Rattle.paper.specs.Shown.{verdictOf, extraOf}
 use Rattle.paper.specs.declared.ResultCode.{ResultCode}
@@ -24,7 +24,8 @@ use Rattle.paper.specs.declared.Extra.the-variants as Extra
 use Rattle.paper.proofs.AvpLaws.{padded-least}
 use Rattle.paper.proofs.AnswerParts.{item-fours, fours-add, length-number}
 use Rattle.avp.specs.Written.{groupHead}
-use Rattle.avp.proofs.WriteLaws.{length-head, headSize-for, length-written, wrote-group, wrote-group-under}
+use Rattle.paper.proofs.WrittenLaws.{length-head}
+use Rattle.avp.proofs.WriteLaws.{headSize-for, length-written, wrote-group, wrote-group-under}
 use Rattle.answer.specs.Parts.{ownItems, ambrItem, ulaItems}
 
 -- ---- sizes
@@ -80,10 +81,6 @@ result-base e = rw e
 
 pub result-experimental : {v : Verdict} {code : ExperimentalCode} → v ≡ Experimental code → resultItem (verdictOf (Experimental code)) ≡ resultItem (verdictOf v)
 result-experimental e = rw e
-
-pub experimental-parts : (code : ℕ) → item experimentalResult (numberItem vendorId vendor3gpp ++ numberItem experimentalResultCode code) ≡ resultItem (verdictOf (Experimental (record { 0 = code })))
-unfolding resultItem
-experimental-parts code = refl
 
 -- ---- the AVPs of a success
 

@@ -5,7 +5,7 @@ use Prim.Native.Nat.{ℕ, _+_, _≤_}
 use lib.ListN.{length}
 use Rattle.paper.specs.Layout.{leastRequest, mostRequest, mostName, leastAnswer, longestAnswer}
 use Rattle.paper.specs.Answer.{Reply, replyAvps, answer}
-use Rattle.paper.specs.Shown.{Readable}
+use Rattle.paper.specs.ShownIn.{ShownIn}
 use Rattle.paper.specs.declared.Failed.{Failed}
 
 -- a request, names and a Failed-AVP that can be read
@@ -14,7 +14,7 @@ pub record Given (m host realm : List ℕ) (failed : Failed) : Type 0 where
   pub most : length m ≤ mostRequest
   pub named : length host ≤ mostName
   pub ruled : length realm ≤ mostName
-  pub readable : Readable m failed
+  pub readable : ShownIn m failed
 
 -- room for the AVPs behind `at`, and 60 bytes more, so that a writer may ask for the most that its part takes
 pub record AvpsAsk (out : List ℕ) (at : ℕ) (m host realm : List ℕ) (failed : Failed) (y : Reply) : Type 0 where

@@ -9,8 +9,6 @@ ghost use Rattle.paper.specs.Request.{find};
 ghost use Rattle.paper.specs.Answer.{echoed, eachOf};
 ghost use Rattle.avp.specs.Found.{Inside};
 ghost use Rattle.answer.specs.Parts.{copied};
-use crate::keys::PROXY_INFO;
-use crate::keys::SESSION_ID;
 use avp::cursor::Avp;
 use avp::cursor::Cursor;
 use avp::cursor::Step;
@@ -18,6 +16,8 @@ use avp::find::Found;
 use avp::find::data;
 use avp::find::find;
 use avp::write::put_avp;
+use paper::profile::PROXY_INFO;
+use paper::profile::SESSION_ID;
 
 // Session-Id, if there is one among the AVPs of `s`.
 pub fn put_session_id(out: &mut [u8], at: usize, s: &[u8]) -> usize

@@ -6,10 +6,11 @@ ghost use lib.ListN.{length};
 ghost use Rattle.wire.specs.Number.{numAt};
 ghost use Rattle.wire.specs.Put.{Wrote};
 ghost use Rattle.paper.specs.Avp.{hasV, framed, avpOf, bareOf, asReceived};
+ghost use Rattle.paper.specs.Layout.{mostRequest};
 ghost use Rattle.paper.specs.Answer.{failedItem};
-ghost use Rattle.paper.specs.Shown.{absent, failedIn, Readable};
+ghost use Rattle.paper.specs.Shown.{absent, failedIn};
+ghost use Rattle.paper.specs.ShownIn.{ShownIn};
 ghost use Rattle.answer.specs.Parts.{shownBytes};
-use crate::keys::FAILED_AVP;
 use avp::cursor::Cursor;
 use avp::cursor::Step;
 use avp::cursor::has_v;
@@ -18,6 +19,7 @@ use avp::write::put_as_received;
 use avp::write::put_group_head;
 use avp::write::put_number;
 use paper::Failed;
+use paper::profile::FAILED_AVP;
 use wire::number::byte_or_zero;
 use wire::number::get_cut;
 
@@ -73,7 +75,7 @@ fn put_absent(out: &mut [u8], at: usize, vendor: u32, code: u32, four: bool) -> 
 
 // What Failed-AVP holds.
 fn put_shown(out: &mut [u8], at: usize, m: &[u8], failed: Failed) -> usize
-    requires { ⌜ (length (now m) ≤ 4096) × Readable (now m) failed × (at + (length (shownBytes (failedIn (now m) failed)) + 16) ≤ length (now out)) ⌝ }
+    requires { ⌜ (length (now m) ≤ mostRequest) × ShownIn (now m) failed × (at + (length (shownBytes (failedIn (now m) failed)) + 16) ≤ length (now out)) ⌝ }
     ensures { λ r. ⌜ Wrote (now (out .entry)) at (shownBytes (failedIn (now (m .entry)) failed)) (now (out .exit)) r ⌝ }
 {
     match failed {
@@ -86,7 +88,7 @@ fn put_shown(out: &mut [u8], at: usize, m: &[u8], failed: Failed) -> usize
 
 // Failed-AVP, where there is something to show.
 pub fn put_failed(out: &mut [u8], at: usize, m: &[u8], failed: Failed) -> usize
-    requires { ⌜ (length (now m) ≤ 4096) × Readable (now m) failed × (at + (length (shownBytes (failedIn (now m) failed)) + 24) ≤ length (now out)) ⌝ }
+    requires { ⌜ (length (now m) ≤ mostRequest) × ShownIn (now m) failed × (at + (length (shownBytes (failedIn (now m) failed)) + 24) ≤ length (now out)) ⌝ }
     ensures { λ r. ⌜ Wrote (now (out .entry)) at (failedItem (failedIn (now (m .entry)) failed)) (now (out .exit)) r ⌝ }
 {
     let start = at + 8;

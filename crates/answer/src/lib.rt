@@ -3,5 +3,4 @@
 pub mod answer;
 pub mod echo;
 pub mod failed;
-pub mod keys;
 pub mod parts;

@@ -2,32 +2,33 @@
 ghost use Prim.Native.Nat.{_+_, _≤_};
 ghost use lib.ListN.{length};
 ghost use Rattle.wire.specs.Put.{Wrote};
+ghost use Rattle.paper.specs.Layout.{mostName};
 ghost use Rattle.paper.specs.Answer.{resultItem, restrictionItem, subscriptionOf};
 ghost use Rattle.paper.specs.Shown.{verdictOf, extraOf};
 ghost use Rattle.paper.specs.declared.Verdict.the-variants.{Experimental};
 ghost use Rattle.answer.specs.Parts.{ownItems, ambrItem, ulaItems};
-use crate::keys::ACCESS_RESTRICTION_DATA;
-use crate::keys::AMBR;
-use crate::keys::AUTH_SESSION_STATE;
-use crate::keys::BANDWIDTH_DL;
-use crate::keys::BANDWIDTH_UL;
-use crate::keys::EXPERIMENTAL_RESULT;
-use crate::keys::EXPERIMENTAL_RESULT_CODE;
-use crate::keys::ORIGIN_HOST;
-use crate::keys::ORIGIN_REALM;
-use crate::keys::PUA_FLAGS;
-use crate::keys::RESULT_CODE;
-use crate::keys::SUBSCRIBER_STATUS;
-use crate::keys::SUBSCRIPTION_DATA;
-use crate::keys::ULA_FLAGS;
-use crate::keys::VENDOR_3GPP;
-use crate::keys::VENDOR_ID;
 use avp::write::put_avp;
 use avp::write::put_group_head;
 use avp::write::put_number;
 use paper::ExperimentalCode;
 use paper::Extra;
 use paper::Verdict;
+use paper::profile::ACCESS_RESTRICTION_DATA;
+use paper::profile::AMBR;
+use paper::profile::AUTH_SESSION_STATE;
+use paper::profile::BANDWIDTH_DL;
+use paper::profile::BANDWIDTH_UL;
+use paper::profile::EXPERIMENTAL_RESULT;
+use paper::profile::EXPERIMENTAL_RESULT_CODE;
+use paper::profile::ORIGIN_HOST;
+use paper::profile::ORIGIN_REALM;
+use paper::profile::PUA_FLAGS;
+use paper::profile::RESULT_CODE;
+use paper::profile::SUBSCRIBER_STATUS;
+use paper::profile::SUBSCRIPTION_DATA;
+use paper::profile::ULA_FLAGS;
+use paper::profile::VENDOR_3GPP;
+use paper::profile::VENDOR_ID;
 
 // Experimental-Result: Vendor-Id and Experimental-Result-Code, 12 bytes each.
 fn put_experimental(out: &mut [u8], at: usize, code: ExperimentalCode) -> usize
@@ -52,7 +53,7 @@ pub fn put_result(out: &mut [u8], at: usize, verdict: Verdict) -> usize
 
 // Auth-Session-State 1, Origin-Host, Origin-Realm.
 pub fn put_own(out: &mut [u8], at: usize, host: &[u8], realm: &[u8]) -> usize
-    requires { ⌜ (length (now host) ≤ 64) × (length (now realm) ≤ 64) × (at + length (ownItems (now host) (now realm)) ≤ length (now out)) ⌝ }
+    requires { ⌜ (length (now host) ≤ mostName) × (length (now realm) ≤ mostName) × (at + length (ownItems (now host) (now realm)) ≤ length (now out)) ⌝ }
     ensures { λ r. ⌜ Wrote (now (out .entry)) at (ownItems (now (host .entry)) (now (realm .entry))) (now (out .exit)) r ⌝ }
 {
     let a = put_number(out, at, 0, AUTH_SESSION_STATE, 1);

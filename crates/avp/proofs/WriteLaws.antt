@@ -13,12 +13,12 @@ use Rattle.wire.proofs.NumberLaws.{be-append}
 use Rattle.wire.proofs.PutLaws.{wrote-then, wrote-under, wrote-same}
 use Rattle.paper.specs.Avp.{hasV, headSize, padded, vendorField, avpOf, asReceived, flagsFor, written}
 use Rattle.paper.proofs.AvpLaws.{padded-least, padded-whole}
-use Rattle.paper.proofs.WrittenLaws.{headBytes, length-head as length-head-bytes}
+use Rattle.paper.proofs.WrittenLaws.{headBytes, length-head}
 use Rattle.avp.specs.Step.{avpAt}
 use Rattle.avp.specs.Found.{dataOf}
 use Rattle.avp.specs.declared.cursor.Avp.{Avp as Read}
 use Rattle.avp.proofs.StepLaws.{data-at}
-use Rattle.avp.specs.Written.{head, groupHead, received}
+use Rattle.avp.specs.Written.{groupHead, received}
 
 -- ---- headers
 
@@ -27,10 +27,6 @@ pub flags-and-length : (flags k : ℕ) → flags < 256 → k < 16777216 → be 4
 flags-and-length flags k h l =
     let e : flags / 256 ^ 0 % 256 ≡ flags = omega arith in
     be-append 1 3 flags k l ∙ ap (λ (x : ℕ). x ∷ be 3 k) e
-
-pub length-head : (code flags vendor n : ℕ) → length (head code flags vendor n) ≡ headSize flags
-unfolding head headBytes
-length-head = length-head-bytes
 
 pub length-field : (flags vendor : ℕ) → 8 + length (vendorField flags vendor) ≡ headSize flags
 unfolding vendorField headSize
@@ -54,8 +50,8 @@ headSize-for vendor mandatory = go (eqb vendor 0) mandatory
 -- ---- whole AVPs
 
 pub received-parts : (code flags vendor : ℕ) (body : List ℕ)
-    → received code flags vendor body ≡ head code flags vendor (length body) ++ (body ++ replicate (padded (length body) - length body) 0)
-unfolding asReceived head
+    → received code flags vendor body ≡ headBytes code flags vendor (length body) ++ (body ++ replicate (padded (length body) - length body) 0)
+unfolding asReceived headBytes
 received-parts code flags vendor body = refl
 
 pub length-received : (code flags vendor : ℕ) (body : List ℕ) → length (received code flags vendor body) ≡ headSize flags + padded (length body)
@@ -80,8 +76,8 @@ pub received-for : (vendor code : ℕ) (mandatory : Bool) (body : List ℕ) {fla
 unfolding written
 received-for vendor code mandatory body e = ap (λ (f : ℕ). received code f vendor body) e
 
-pub head-for : (vendor code n : ℕ) {flags : ℕ} → flags ≡ flagsFor vendor true → head code flags vendor n ≡ groupHead vendor code n
-head-for vendor code n e = ap (λ (f : ℕ). head code f vendor n) e
+pub head-for : (vendor code n : ℕ) {flags : ℕ} → flags ≡ flagsFor vendor true → headBytes code flags vendor n ≡ groupHead vendor code n
+head-for vendor code n e = ap (λ (f : ℕ). headBytes code f vendor n) e
 
 -- ---- groups
 

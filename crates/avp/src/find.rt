@@ -13,6 +13,8 @@ ghost use Rattle.avp.specs.Found.{indexOf, foundAt, Inside, dataOf};
 use crate::cursor::Avp;
 use crate::cursor::Cursor;
 use crate::cursor::Step;
+use paper::layout::MESSAGE_HEADER;
+use paper::profile::ORIGIN_HOST;
 
 pub enum Found {
     At(Avp),
@@ -110,12 +112,12 @@ pub fn found_data(s: &[u8], vendor: u32, code: u32) -> &[u8]
     }
 }
 
-// The data of Origin-Host (264) in a message, as that stretch of the message itself; any bytes may be given.
+// The data of Origin-Host in a message, as that stretch of the message itself; any bytes may be given.
 pub fn origin_host(m: &[u8]) -> &[u8]
     ensures { λ r. ⌜ now r ≡ originHost (now (m .entry)) ⌝ }
 {
-    if m.len() < 20 {
+    if m.len() < MESSAGE_HEADER {
         return &m[..0];
     }
-    found_data(&m[20..], 0, 264)
+    found_data(&m[MESSAGE_HEADER..], 0, ORIGIN_HOST)
 }

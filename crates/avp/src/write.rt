@@ -6,7 +6,8 @@ ghost use lib.ListN.{length};
 ghost use Rattle.wire.specs.Number.{be};
 ghost use Rattle.wire.specs.Put.{Wrote};
 ghost use Rattle.paper.specs.Avp.{vendorField, flagsFor, written};
-ghost use Rattle.avp.specs.Written.{head, groupHead, received};
+ghost use Rattle.paper.proofs.WrittenLaws.{headBytes};
+ghost use Rattle.avp.specs.Written.{groupHead, received};
 use crate::cursor::has_v;
 use crate::cursor::head_size;
 use crate::cursor::with_padding;
@@ -38,8 +39,8 @@ fn put_vendor(out: &mut [u8], at: usize, flags: u8, vendor: u32) -> usize
 
 // The header of an AVP with `n` bytes of data. Flags and length are one number of four bytes.
 fn put_head(out: &mut [u8], at: usize, code: u32, flags: u8, vendor: u32, n: usize) -> usize
-    requires { ⌜ (n < 16777200) × (at + length (head code flags vendor n) ≤ length (now out)) ⌝ }
-    ensures { λ r. ⌜ Wrote (now (out .entry)) at (head code flags vendor n) (now (out .exit)) r ⌝ }
+    requires { ⌜ (n < 16777200) × (at + length (headBytes code flags vendor n) ≤ length (now out)) ⌝ }
+    ensures { λ r. ⌜ Wrote (now (out .entry)) at (headBytes code flags vendor n) (now (out .exit)) r ⌝ }
 {
     let a = put_u32(out, at, code);
     let b = put_u32(

@@ -1,6 +1,6 @@
 // A frame's parts, and whether its value may stand in a table: for any bytes, a byte past the end read as 0.
-use table::layout::MOST_PLMNS;
-use table::layout::PLMN_SIZE;
+use paper::layout::MOST_PLMNS;
+use paper::layout::PLMN_SIZE;
 ghost use mathlib.Core.Path.{_≡_};
 ghost use mathlib.Core.Bool.{_&&_};
 ghost use Prim.Native.Nat.{_+_, _*_};

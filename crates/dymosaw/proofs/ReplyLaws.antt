@@ -1,33 +1,32 @@
 -- What an answered call leaves, from what its parts wrote: refusals with an answer, Experimental results, success.
 -- Assumes nothing.
 use mathlib.Core.Path.{_≡_, refl, sym, ap, _∙_, subst}
-use mathlib.Core.Bool.{Bool, true, false}
-use mathlib.Core.Option.{Option, none, some}
+use mathlib.Core.Bool.{Bool, true}
+use mathlib.Core.Option.{none}
 use mathlib.Core.List.{List, []}
-use Prim.Native.Nat.{ℕ, _+_, _≤_, _<_}
+use Prim.Native.Nat.{ℕ, _+_, _≤_}
 use native.Mathlib.Nat.{zero-add}
-use native.Mathlib.Omega.{arith}
 use lib.ListN.{length}
 use Rattle.wire.specs.Put.{put, Wrote}
 use Rattle.paper.specs.declared.Verdict.{Verdict}
 use Rattle.paper.specs.declared.Verdict.the-variants.{Base, Experimental}
 use Rattle.paper.specs.declared.ExperimentalCode.{ExperimentalCode}
 use Rattle.paper.specs.declared.Failed.{Failed}
-use Rattle.paper.specs.declared.Failed.the-variants.{Nothing, Whole, Bare, Missing}
+use Rattle.paper.specs.declared.Failed.the-variants.{Nothing}
 use Rattle.paper.specs.declared.Extra.{Extra}
 use Rattle.paper.specs.declared.Extra.the-variants as Extra
 use Rattle.paper.specs.declared.Asked.{Asked}
 use Rattle.paper.specs.Layout.{recordSize, imsiSize, mostDigits, mostEntries}
 use Rattle.paper.specs.Fields.{filled}
 use Rattle.paper.specs.Profile.{userName}
-use Rattle.paper.specs.Table.{valid, recordAt, recordOf, countOf, lookup}
-use Rattle.paper.specs.Request.{Refusal, refusal, valueOf, imeiOf, isThere, imeiDigits, isName}
+use Rattle.paper.specs.Table.{valid, recordAt, recordOf, lookup}
+use Rattle.paper.specs.Request.{refusal, valueOf, imeiDigits, isName}
 use Rattle.paper.specs.Asked.{askedOf, imeiDigitsOf}
 use Rattle.paper.specs.Procedures.{Entry, sender, experimental, carriedOut, cancelBytes, imsiField}
 use Rattle.paper.specs.Answer.{Reply, answer}
-use Rattle.paper.specs.Shown.{verdictOf, extraOf, replyOf, Readable}
+use Rattle.paper.specs.Shown.{verdictOf, extraOf, replyOf}
 use Rattle.paper.specs.ShownIn.{ShownIn}
-use Rattle.paper.specs.Outcome.{Lent, Outcome, answered, refusalReply, successItems, successReply, byVerdict, byRecord, byRefusal}
+use Rattle.paper.specs.Outcome.{Lent, Outcome, answered, successItems, byVerdict, byRecord, byRefusal}
 use Rattle.paper.specs.Passed.{Passed}
 use Rattle.paper.proofs.TableLaws.{lookup-some}
 use Rattle.paper.proofs.StoreLaws.{inside-valid}
@@ -48,9 +47,8 @@ use Rattle.request.specs.Test.{refusalIn, PlacesIn, Answers}
 use Rattle.table.specs.declared.lookup.Found.{Found}
 use Rattle.table.specs.declared.lookup.Found.the-variants as Found
 use Rattle.table.specs.Found.{placeOf}
-use Rattle.dymosaw.specs.declared.serve.Served.{Served}
-use Rattle.dymosaw.specs.declared.serve.Served.the-variants.{Refused, Answered}
-use Rattle.dymosaw.specs.Serve.{lent, cameTo, Ready, entriesIn}
+use Rattle.dymosaw.specs.declared.serve.Served.the-variants.{Answered}
+use Rattle.dymosaw.specs.Serve.{cameTo, entriesIn}
 use Rattle.dymosaw.proofs.CountLaws.{entries-counted}
 
 -- ---- what was written is the outcome
@@ -71,7 +69,7 @@ reply-said m v f x echo = refl
 -- ---- what the writer of the answer asks
 
 module _ (l : Lent) (p : Passed l) where
-  ask-for : (f : Failed) {y : Reply} → Readable (l .request) f → ReplyTo (l .request) y → AnswerAsk (l .answer) (l .request) (l .host) (l .realm) f y
+  ask-for : (f : Failed) {y : Reply} → ShownIn (l .request) f → ReplyTo (l .request) y → AnswerAsk (l .answer) (l .request) (l .host) (l .realm) f y
   ask-for f r t = answer-ask (l .answer) (l .request) (l .host) (l .realm) f (p .answer-room) (p .least) (p .most) (p .host-name) (p .realm-name) r t
 
   pub ask-experimental : refusal (l .request) ≡ none → (c : ExperimentalCode) → AnswerAsk (l .answer) (l .request) (l .host) (l .realm) Nothing (replyOf (l .request) (Experimental c) Nothing Extra.Nothing true)
@@ -81,13 +79,6 @@ module _ (l : Lent) (p : Passed l) where
       → AnswerAsk (l .answer) (l .request) (l .host) (l .realm) Nothing (replyOf (l .request) (Base (record { 0 = 2001 })) Nothing x true)
   ask-success n r i x e =
       subst (AnswerAsk (l .answer) (l .request) (l .host) (l .realm) Nothing) (sym (success-shown (l .request) r (carriedOut (l .request) i (l .table)) x e)) (ask-for Nothing tt (Sizes.success r _ n))
-
--- places that lie in the request can be read
-readable : (m : List ℕ) (f : Failed) → ShownIn m f → Readable m f
-readable m Nothing s = tt
-readable m (Whole at to) s = let o = s .0 .order in (omega arith, s .0 .fits, s .1)
-readable m (Bare at to) s = let o = s .order in (omega arith, s .fits)
-readable m (Missing vendor code four) s = tt
 
 -- ---- a refusal with a Result-Code
 
@@ -99,7 +90,7 @@ module _ (l : Lent) {r : Test} (j : Answers (l .request) (refusal (l .request)) 
     pub ask-refusal : Passed l → AnswerAsk (l .answer) (l .request) (l .host) (l .realm) f (replyOf (l .request) (Base code) f Extra.Nothing echo)
     ask-refusal p =
         subst (AnswerAsk (l .answer) (l .request) (l .host) (l .realm) f) (sym (refusal-shown (l .request) _ f refl))
-        (ask-for l p f (readable (l .request) f (subst (PlacesIn (l .request)) e (j .places))) (Sizes.refused _ the-refusal))
+        (ask-for l p f (subst (PlacesIn (l .request)) e (j .places)) (Sizes.refused _ the-refusal))
 
     pub refused-outcome : {o : Outcome} → o ≡ answered l (l .table) [] (replyOf (l .request) (Base code) f Extra.Nothing echo) → o ≡ byRefusal l (refusal (l .request))
     unfolding byRefusal

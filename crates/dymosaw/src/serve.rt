@@ -9,7 +9,12 @@ use paper::Extra;
 use paper::Failed;
 use paper::ResultCode;
 use paper::Verdict;
-use procedures::cancel::CANCEL_SIZE;
+use paper::layout::CANCEL_SIZE;
+use paper::layout::ENTRY_SIZE;
+use paper::layout::IMSI_SIZE;
+use paper::layout::LEAST_ANSWER;
+use paper::layout::LEAST_REQUEST;
+use paper::layout::MOST_REQUEST;
 use procedures::cancel::no_entries;
 use procedures::carry::carry_out;
 use procedures::verdict::Ruling;
@@ -48,14 +53,6 @@ ghost use Rattle.paper.specs.declared.Extra.the-variants as Extra;
 ghost use Rattle.procedures.specs.Values.{Held};
 ghost use Rattle.request.specs.Accepted.{Accepts};
 ghost use Rattle.dymosaw.specs.Serve.{lent, cameTo, Is, silentNumber, entryAt, entriesIn, Ready};
-
-const LEAST_ANSWER: usize = 4352;
-
-const ENTRY_SIZE: usize = 68;
-
-const LEAST_REQUEST: usize = 20;
-
-const MOST_REQUEST: usize = 4096;
 
 // What a request comes to: refused without an answer, by 01's number, or answered. `listed` counts the nodes to cancel.
 pub enum Served {
@@ -149,11 +146,11 @@ fn put_refusal(
 // ---- an accepted request
 
 // The IMSI of User-Name as stored: its digit count, the digits, zeros.
-fn imsi_field(digits: &[u8]) -> [u8; 16]
+fn imsi_field(digits: &[u8]) -> [u8; IMSI_SIZE]
     requires { ⌜ length (now digits) ≤ mostDigits ⌝ }
     ensures { λ r. ⌜ r ≡ filled mostDigits (now (digits .entry)) ⌝ }
 {
-    let mut field = [0; 16];
+    let mut field = [0; IMSI_SIZE];
     let n = digits.len() as u8;
     field[0] = n;
     wire::put::put_bytes(&mut field, 1, digits);

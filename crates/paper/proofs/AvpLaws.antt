@@ -137,9 +137,6 @@ module _ {x : List ℕ} (o : OneAvp x) where
   pub one-least : 8 ≤ length x
   one-least = let h = headSize-least (flagsOf x) in let a = one-head in omega arith
 
-  pub one-fours : length x % 4 ≡ 0
-  one-fours = rw (o .exact) (padded-fours (lengthOf x))
-
   pub head-append : (s : List ℕ) → SameHead (x ++ s) x
   head-append s = let h = one-head in head-agree (x ++ s) x (λ k l. List·getD-append x s 0 k (omega arith))
 
@@ -194,9 +191,6 @@ module _ (s : List ℕ) (e : framed s ≡ true) where
   -- the length of the whole AVP, from its data
   pub head-and-body : headSize (flagsOf s) + length (bodyOf s) ≡ lengthOf s
   head-and-body = let a = framed-sizes s e .long in rw length-body (omega arith)
-
-  pub body-shorter : length (bodyOf s) < length s
-  body-shorter = let h = framed-head in let l = headSize-least (flagsOf s) in let b = framed-sizes s e .inside in let p = padded-least (lengthOf s) in rw length-body (omega arith)
 
   pub after-shorter : length (after s) < length s
   unfolding after

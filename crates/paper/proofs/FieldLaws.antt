@@ -175,10 +175,6 @@ below-four P p₀ p₁ p₂ p₃ (suc (suc (suc (suc b)))) h = absurd (omega ari
 unfoldable pub allowed : ℕ → Bool → Bool → Bool
 allowed b m s = ltb b 4 && ((not (eqb (b / 2 ^ 0 % 2) 1) || m) && (not (eqb (b / 2 ^ 1 % 2) 1) || s))
 
-allowed-small : (b : ℕ) (m s : Bool) → allowed b m s ≡ true → b < 4
-unfolding allowed
-allowed-small b m s e = ltb-true b 4 (and-true-left (ltb b 4) _ e)
-
 clear-mme : (m s : Bool) (b : ℕ) → b < 4 → allowed b m s ≡ true → allowed (withoutBit 0 b) m s ≡ true
 unfolding allowed withoutBit
 clear-mme m s = below-four (λ b. allowed b m s ≡ true → allowed (withoutBit 0 b) m s ≡ true) (λ e. e) (λ e. refl) (λ e. e) (λ e. and-true-right m s e)

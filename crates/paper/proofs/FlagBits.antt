@@ -2,13 +2,13 @@
 -- Assumes nothing.
 use mathlib.Core.Path.{_≡_, refl, sym, _∙_}
 use mathlib.Core.Logic.{_≢_}
-use mathlib.Core.Bool.{Bool, true, false, cond, not}
+use mathlib.Core.Bool.{Bool, true, false, cond}
 use Prim.Native.Nat.{ℕ, suc, _+_, _-_, _*_, _/_, _%_, _^_, _≤_, _<_}
 use native.Mathlib.Nat.{one-le-pow, pow-suc, div-div-eq-div-mul, div-eq-sub-div, add-div-right, add-mul-div-left, le-div-iff-mul-le, div-lt-iff-lt-mul}
 use native.Mathlib.Omega.{arith}
 use lib.Dec.{ltb, lit<}
 use lib.Pow.{pow-add}
-use borrow.Author.Tests.{ltb-true, ltb-false, eqb-true, eqb-false, eq-eqb, ne-eqb}
+use borrow.Author.Tests.{ltb-true, ltb-false, eqb-true, eqb-false}
 use Rattle.paper.specs.Avp.{bit, hasV, hasM}
 use Rattle.paper.specs.Widened.{flipped}
 
@@ -52,12 +52,6 @@ above k i n = rw (pow-add 2 (suc k) i, pow-suc 2 k, div-div-eq-div-mul n (2 ^ k)
 
 pub flip-above : (k i n : ℕ) → bit (suc k + i) (flipped k n) ≡ bit (suc k + i) n
 flip-above k i n = rw (above k i (flipped k n), above k i n, half-kept k n)
-
-pub flip-flips : (k n : ℕ) → bit k (flipped k n) ≡ not (bit k n)
-flip-flips k n =
-    flipped-cases (λ m. bit k m ≡ not (bit k n)) k n
-    (λ e. let o = set-odd k n e in let d = down k n e in rw e (ne-eqb ((n - 2 ^ k) / 2 ^ k % 2) 1 (λ q. omega arith)))
-    (λ e. let o = clear-even k n e in let d = up k n in rw e (eq-eqb ((n + 2 ^ k) / 2 ^ k % 2) 1 (omega arith)))
 
 pub hasM-flipped : (k n : ℕ) → k < 6 → hasM (flipped k n) ≡ hasM n
 hasM-flipped k n h = let e : suc k + (5 - k) ≡ 6 = omega arith in rw e at (flip-above k (5 - k) n)

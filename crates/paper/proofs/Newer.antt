@@ -50,7 +50,7 @@ module _ (l : Lent) {n : List ℕ} {a : Option Avp} (p : Passes (l .request)) (k
 
   record-kept : (o : Option ℕ) → byRecord (asking l n) o ≡ byRecord l o
   unfolding byRecord asking
-  record-kept none = answered-kept (l .table) [] (experimentalReply 5001)
+  record-kept none = answered-kept _ _ _
   record-kept (some i) = rw (experimental-kept p k (recordOf (l .table) i)) (verdict-kept i (recordOf (l .table) i) _)
 
   pub outcome-kept : a ≡ none → Tested l → Tested (asking l n) → outcome (asking l n) ≡ outcome l

@@ -1,23 +1,21 @@
--- What a request comes to, case by case; and what 01 says of every outcome: sizes, the answer's own length, the table, the list.
+-- What a request comes to, case by case; and what 01 says of every outcome: its size, and the table.
 -- Assumes nothing.
-use mathlib.Core.Path.{_≡_, refl, sym, ap, _∙_}
+use mathlib.Core.Path.{_≡_, refl, ap}
 use mathlib.Core.Bool.{Bool, true, false, cond, _&&_, _||_, not}
 use mathlib.Core.Option.{Option, none, some}
-use mathlib.Core.List.{List, [], _++_}
+use mathlib.Core.List.{List, []}
 use Prim.Native.Nat.{ℕ, _≤_, _<_}
 use native.Mathlib.Omega.{arith}
 use lib.Dec.{ltb, eqb}
-use lib.ListN.{length, replicate}
+use lib.ListN.{length}
 use borrow.Author.Tests.{ltb-false, not-false, eqb-true, eqb-false}
-use Rattle.wire.specs.Put.{put}
 use Rattle.wire.proofs.ListLaws.{and-true-left, and-true-right}
-use Rattle.wire.proofs.NumberLaws.{numAt-append-left, numAt-part}
-use Rattle.paper.specs.Layout.{changeAt, subscriptionAt, restrictionAt, plmnCountAt, plmnsAt, ambrAt, leastAnswer, longestAnswer, cancelSize, leastRequest, mostRequest, mostEntries}
+use Rattle.wire.proofs.NumberLaws.{numAt-part}
+use Rattle.paper.specs.Layout.{changeAt, subscriptionAt, restrictionAt, plmnCountAt, plmnsAt, ambrAt, leastAnswer, longestAnswer, cancelSize, leastRequest, mostRequest}
 use Rattle.paper.specs.Table.{valid, lookup, recordOf, countOf}
-use Rattle.paper.specs.Request.{isRequest, isName, Refusal, refusal, messageLength}
-use Rattle.paper.specs.Procedures.{Entry, sender, imsiField, experimental, carriedOut, cancelBytes}
-use Rattle.paper.specs.Answer as Answer
-use Rattle.paper.specs.Answer.{Verdict, Reply, answer}
+use Rattle.paper.specs.Request.{isRequest, isName, Refusal, refusal}
+use Rattle.paper.specs.Procedures.{imsiField, experimental, carriedOut}
+use Rattle.paper.specs.Answer.{Reply, answer}
 use Rattle.paper.specs.Outcome.{Lent, Outcome, silent, answered, refusalReply, experimentalReply, successReply, byVerdict, byRecord, byRefusal, outcome}
 use Rattle.paper.specs.Passed.{Passed}
 use Rattle.paper.specs.Clerks.{fieldsOfKind, heldIn, standingOf}
@@ -25,9 +23,7 @@ use Rattle.paper.proofs.TestLaws.{or-false-left, or-false-right}
 use Rattle.paper.proofs.RecordLaws.{range, apart, apartFrom}
 use Rattle.paper.proofs.StoreLaws.{long-valid}
 use Rattle.paper.proofs.TableLaws.{lookup-some}
-use Rattle.paper.proofs.EntryLaws.{EachOf, Listable, no-entries}
-use Rattle.paper.proofs.ProcedureLaws.{requestRanges, Served, served-count, carried-served, carried-each, carried-few}
-use Rattle.paper.proofs.AnswerParts.{length-answer, answer-length-field}
+use Rattle.paper.proofs.ProcedureLaws.{requestRanges, Served, served-count, carried-served}
 use Rattle.paper.proofs.AnswerSizes as Sizes
 use Rattle.paper.proofs.AnswerSizes.{ReplyTo, answer-bound}
 use Rattle.paper.proofs.AcceptedLaws.{accepted}
@@ -110,58 +106,14 @@ size-most l o (done p n i e) = reply-size l p (Sizes.success _ _ n)
 pub outcome-size : (l : Lent) → outcome l .size ≤ longestAnswer
 outcome-size l = size-most l (outcome l) (outcome-comes l)
 
--- the answer says its own length, whatever stands behind it in the buffer
-answer-length : (m host realm tail : List ℕ) (y : Reply) → leastRequest ≤ length m → length (answer m host realm y) ≤ longestAnswer
-    → messageLength (answer m host realm y ++ tail) ≡ length (answer m host realm y)
-answer-length m host realm tail y least short =
-    let n = length-answer m host realm y least in
-    numAt-append-left 3 (answer m host realm y) tail 1 (omega arith) ∙ answer-length-field m host realm y least (omega arith)
+-- ---- a refusal without an answer
 
-length-said : (l : Lent) (o : Outcome) → Comes l o → (v : Verdict) → o .verdict ≡ some v → messageLength (o .answer) ≡ o .size
-unfolding silent answered put
-length-said l o (silence n) v e = let z : _≡_ {A = ℕ} 0 1 = cc in absurd (omega arith)
-length-said l o (refused p x e) v _ = answer-length (l .request) (l .host) (l .realm) _ (refusalReply x) (p .least) (reply-size l p (Sizes.refused x e))
-length-said l o (ruled p n code) v _ = answer-length (l .request) (l .host) (l .realm) _ (experimentalReply code) (p .least) (reply-size l p (Sizes.experimental code n))
-length-said l o (done p n i e) v _ = answer-length (l .request) (l .host) (l .realm) _ _ (p .least) (reply-size l p (Sizes.success _ _ n))
-
--- the answer's length field is its length
-pub outcome-length : (l : Lent) (v : Verdict) → outcome l .verdict ≡ some v → messageLength (outcome l .answer) ≡ outcome l .size
-outcome-length l = length-said l (outcome l) (outcome-comes l)
-
--- ---- refusals
-
--- the table as it came, and an empty list
-pub record Untouched (l : Lent) (o : Outcome) : Type 0 where
-  pub table : o .table ≡ l .table
-  pub list : o .cancel ≡ put 0 (replicate cancelSize 0) (l .cancel)
-
-refusal-untouched : (l : Lent) (o : Outcome) → Comes l o → (v : Verdict) → o .verdict ≡ some v → (v ≡ Answer.base 2001 → ⊥) → Untouched l o
-unfolding silent answered successReply
-refusal-untouched l o (silence n) v e ne = let z : _≡_ {A = ℕ} 0 1 = cc in absurd (omega arith)
-refusal-untouched l o (refused p x e) v _ ne = record { table = refl; list = ap (λ (x : List ℕ). put 0 x (l .cancel)) no-entries }
-refusal-untouched l o (ruled p n code) v _ ne = record { table = refl; list = ap (λ (x : List ℕ). put 0 x (l .cancel)) no-entries }
-refusal-untouched l o (done p n i e) v q ne = absurd (ne cc)
-
--- "The table is unchanged.": a refusal with an answer, Experimental ones too, leaves the table as it was and writes 136 zero bytes to the cancel buffer
-pub outcome-untouched : (l : Lent) (v : Verdict) → outcome l .verdict ≡ some v → (v ≡ Answer.base 2001 → ⊥) → Untouched l (outcome l)
-outcome-untouched l = refusal-untouched l (outcome l) (outcome-comes l)
-
--- a refusal without an answer: "all buffers stay as they came"
+-- "all buffers stay as they came"
 pub record Left (l : Lent) (o : Outcome) : Type 0 where
   pub size : o .size ≡ 0
   pub table : o .table ≡ l .table
   pub answer : o .answer ≡ l .answer
   pub cancel : o .cancel ≡ l .cancel
-
-silence-left : (l : Lent) (o : Outcome) → Comes l o → o .verdict ≡ none → Left l o
-unfolding silent answered
-silence-left l o (silence n) e = record { size = refl; table = refl; answer = refl; cancel = refl }
-silence-left l o (refused p x e) q = let z : _≡_ {A = ℕ} 0 1 = cc in absurd (omega arith)
-silence-left l o (ruled p n code) q = let z : _≡_ {A = ℕ} 0 1 = cc in absurd (omega arith)
-silence-left l o (done p n i e) q = let z : _≡_ {A = ℕ} 0 1 = cc in absurd (omega arith)
-
-pub outcome-left : (l : Lent) → outcome l .verdict ≡ none → Left l (outcome l)
-outcome-left l = silence-left l (outcome l) (outcome-comes l)
 
 -- ---- the table
 
@@ -191,14 +143,6 @@ touched-valid l t (own-record i f g s) e = s .still-valid
 pub outcome-valid : (l : Lent) → valid (l .table) ≡ true → valid (outcome l .table) ≡ true
 outcome-valid l = touched-valid l (outcome l .table) (outcome-touched l)
 
-touched-elsewhere : (l : Lent) (t : List ℕ) → Touched l t → (j : ℕ) → (lookup (imsiField (l .request)) (l .table) ≡ some j → ⊥) → recordOf t j ≡ recordOf (l .table) j
-touched-elsewhere l t nothing j ne = refl
-touched-elsewhere l t (own-record i f g s) j ne = s .changed .replaced .others j (λ q. ne (f ∙ ap some (sym q)))
-
--- every record but that of the request's IMSI is as it was
-pub outcome-elsewhere : (l : Lent) (j : ℕ) → (lookup (imsiField (l .request)) (l .table) ≡ some j → ⊥) → recordOf (outcome l .table) j ≡ recordOf (l .table) j
-outcome-elsewhere l = touched-elsewhere l (outcome l .table) (outcome-touched l)
-
 -- what corrections alone alter of a record, its change number with it, by the ranges that requests leave
 served-standing : (i : ℕ) (t t′ : List ℕ) → valid t ≡ true → i < countOf t → Served i t t′ → standingOf (recordOf t′ i) ≡ standingOf (recordOf t i)
 unfolding standingOf heldIn fieldsOfKind requestRanges apartFrom apart
@@ -219,35 +163,3 @@ touched-standing l t (own-record i f g s) j = go (eqb j i) refl
 -- "Requests never touch the change number", nor what corrections touch: of no record
 pub outcome-standing : (l : Lent) (j : ℕ) → standingOf (recordOf (outcome l .table) j) ≡ standingOf (recordOf (l .table) j)
 outcome-standing l = touched-standing l (outcome l .table) (outcome-touched l)
-
--- ---- the list
-
--- what an answered request writes to the cancel buffer: at most two entries, and none of the sender's name
-pub record Lists (l : Lent) (o : Outcome) : Type 0 where
-  pub entries : List Entry
-  pub bytes : o .cancel ≡ put 0 (cancelBytes mostEntries entries) (l .cancel)
-  pub count : o .listed ≡ length entries
-  pub few : length entries ≤ mostEntries
-  pub each : EachOf (Listable (sender (l .request))) entries
-
-no-list : (l : Lent) (t : List ℕ) (y : Reply) → Lists l (answered l t [] y)
-unfolding answered
-no-list l t y = record { entries = []; bytes = refl; count = refl; few = omega arith; each = tt }
-
-lists : (l : Lent) (o : Outcome) → Comes l o → (v : Verdict) → o .verdict ≡ some v → Lists l o
-unfolding silent answered
-lists l o (silence n) v e = let z : _≡_ {A = ℕ} 0 1 = cc in absurd (omega arith)
-lists l o (refused p x e) v _ = no-list l (l .table) (refusalReply x)
-lists l o (ruled p n code) v _ = no-list l (l .table) (experimentalReply code)
-lists l o (done p n i e) v _ =
-    let m = l .request in
-    record {
-      entries = carriedOut m i (l .table) .entries;
-      bytes = refl;
-      count = refl;
-      few = carried-few m i (l .table);
-      each = carried-each m i (l .table) (p .table-valid) (lookup-some (imsiField m) (l .table) i e .0);
-    }
-
-pub outcome-lists : (l : Lent) (v : Verdict) → outcome l .verdict ≡ some v → Lists l (outcome l)
-outcome-lists l = lists l (outcome l) (outcome-comes l)

@@ -4,7 +4,7 @@ use mathlib.Core.Path.{_≡_, refl, ap, _∙_}
 use mathlib.Core.Bool.{Bool, true, false, cond, _&&_, _||_}
 use mathlib.Core.Option.{Option, none, some}
 use mathlib.Core.List.{List, [], _∷_}
-use Prim.Native.Nat.{ℕ, _+_, _*_, _≤_, _<_}
+use Prim.Native.Nat.{ℕ, _+_, _≤_, _<_}
 use native.Mathlib.Omega.{arith}
 use lib.Dec.{leb, eqb}
 use lib.ListN.{length, getD}
@@ -13,7 +13,7 @@ use Rattle.wire.specs.Put.{part}
 use Rattle.wire.specs.Stretch.{nameBytes, digits}
 use Rattle.wire.proofs.ListLaws.{and-true-left, and-true-right, and-true-both}
 use Rattle.wire.proofs.PutLaws.{put-after}
-use Rattle.paper.specs.Layout.{recordSize, imsiAt, imsiSize, changeAt, subscriptionAt, restrictionAt, plmnCountAt, plmnsAt, plmnSize, mostPlmns, purgedAt, mmeAt, sgsnAt, mostName, ambrAt, imeiAt, mostDigits, mostEntries, cancelSize}
+use Rattle.paper.specs.Layout.{recordSize, imsiAt, imsiSize, changeAt, purgedAt, mmeAt, sgsnAt, mostName, imeiAt, mostDigits, mostEntries, cancelSize}
 use Rattle.paper.specs.Table.{recordRight, recordAt, recordOf, countOf, imsiOf, valid, Slot, mme, sgsn, lookup, store}
 use Rattle.paper.specs.Fields.{filled, withBit, withoutBit, purgedOf, storeNode, storePurged, storeImei}
 use Rattle.paper.specs.Reader.{Placed}
@@ -233,10 +233,6 @@ module _ (m : List ℕ) (i : ℕ) (t : List ℕ) (ok : Accepted m) (e : valid t 
   pub carried-valid : valid (carriedOut m i t .table) ≡ true
   carried-valid = carried-served .still-valid
 
-  -- record `i` alone changes
-  pub carried-elsewhere : (j : ℕ) → (j ≡ i → ⊥) → recordOf (carriedOut m i t .table) j ≡ recordOf t j
-  carried-elsewhere j ne = carried-served .changed .replaced .others j ne
-
   -- a range that requests do not touch stays
   pub carried-kept : (at n : ℕ) → apartFrom requestRanges (range at n) ≡ true → part at n (recordOf (carriedOut m i t .table) i) ≡ part at n (recordOf t i)
   carried-kept at n a = carried-served .changed .own (range at n) a
@@ -249,27 +245,6 @@ module _ (m : List ℕ) (i : ℕ) (t : List ℕ) (ok : Accepted m) (e : valid t 
   pub carried-change : part changeAt 4 (recordOf (carriedOut m i t .table) i) ≡ part changeAt 4 (recordOf t i)
   unfolding requestRanges apartFrom apart
   carried-change = carried-kept changeAt 4 refl
-
-  -- nor what corrections store: bytes 20, 24 to 28 and 32 to 55, and 196 to 203
-  pub carried-subscription : part subscriptionAt 1 (recordOf (carriedOut m i t .table) i) ≡ part subscriptionAt 1 (recordOf t i)
-  unfolding requestRanges apartFrom apart
-  carried-subscription = carried-kept subscriptionAt 1 refl
-
-  pub carried-restriction : part restrictionAt 4 (recordOf (carriedOut m i t .table) i) ≡ part restrictionAt 4 (recordOf t i)
-  unfolding requestRanges apartFrom apart
-  carried-restriction = carried-kept restrictionAt 4 refl
-
-  pub carried-plmn-count : part plmnCountAt 1 (recordOf (carriedOut m i t .table) i) ≡ part plmnCountAt 1 (recordOf t i)
-  unfolding requestRanges apartFrom apart
-  carried-plmn-count = carried-kept plmnCountAt 1 refl
-
-  pub carried-plmns : part plmnsAt (plmnSize * mostPlmns) (recordOf (carriedOut m i t .table) i) ≡ part plmnsAt (plmnSize * mostPlmns) (recordOf t i)
-  unfolding requestRanges apartFrom apart
-  carried-plmns = carried-kept plmnsAt (plmnSize * mostPlmns) refl
-
-  pub carried-ambr : part ambrAt 8 (recordOf (carriedOut m i t .table) i) ≡ part ambrAt 8 (recordOf t i)
-  unfolding requestRanges apartFrom apart
-  carried-ambr = carried-kept ambrAt 8 refl
 
   -- every IMSI is found where it was
   pub carried-lookup : (imsi : List ℕ) → lookup imsi (carriedOut m i t .table) ≡ lookup imsi t

@@ -19,7 +19,7 @@ use Rattle.wire.proofs.PutLaws.{take-put}
 use Rattle.paper.specs.Avp.{Avp, headSize, flagsFor}
 use Rattle.paper.specs.Reader.{Placed, Avps, whole, broken, more, avps}
 use Rattle.paper.specs.Find.{hasKey, firstOf, bodyFound}
-use Rattle.paper.specs.Profile.{Key, base, tgpp, sessionId, proxyInfo, subscriptionData, subscriberStatus, ambr, bandwidthUplink, bandwidthDownlink, ulaFlags, puaFlags}
+use Rattle.paper.specs.Profile.{Key, base, tgpp, sessionId, proxyInfo, subscriptionData, subscriberStatus, ambr, bandwidthUplink, bandwidthDownlink, ulaFlags, puaFlags, ulr, pur}
 use Rattle.paper.specs.Request.{commandCode, avpsOf, find, valueOf, numberOf, isThere}
 use Rattle.paper.specs.Layout.{ambrAt}
 use Rattle.paper.specs.Procedures.{Done, restrictionOf, carriedOut, isUlr, isPur}
@@ -230,5 +230,5 @@ module _ (l : Lent) (a : Accepted l) where
   pub pur-answered : isPur (l .request) ≡ true → Found (be 4 (carriedOut (l .request) (success l a .place) (l .table) .purges)) (find puaFlags (avpsOf (answerOf l)))
   unfolding successItems
   pur-answered p =
-      let not-ulr : isUlr (l .request) ≡ false = ap (λ (c : ℕ). eqb c 316) (eqb-true (commandCode (l .request)) 321 p) in
+      let not-ulr : isUlr (l .request) ≡ false = ap (λ (c : ℕ). eqb c ulr) (eqb-true (commandCode (l .request)) pur p) in
       holds 1442 _ (rw (not-ulr, p) (holding-item puaFlags (omega arith) (omega arith) _ _))

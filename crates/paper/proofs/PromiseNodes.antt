@@ -17,7 +17,7 @@ use Rattle.paper.specs.Reader.{Placed}
 use Rattle.paper.specs.Table.{recordRight, recordOf, countOf, valid, purgedRight, twoBits, bitAt, Slot, nameOf}
 use Rattle.paper.specs.Request.{imeiOf}
 use Rattle.paper.specs.Reader.{whole}
-use Rattle.paper.specs.Profile.{terminalInformation, imei, commands, commandIn, commandOf}
+use Rattle.paper.specs.Profile.{terminalInformation, imei, commands, commandIn, commandOf, ulr, nor}
 use Rattle.paper.specs.Request.{commandCode, avpsOf, find, inside, has, usedIn, terminal}
 use Rattle.paper.specs.Procedures.{isUlr, isNor, Entry, Done, registered, clear, withImei, cancelled, cancelList, carriedOut}
 use Rattle.paper.specs.Outcome.{Lent}
@@ -144,11 +144,11 @@ imei-asked m code e h = ap (λ (b : Bool). find imei (cond b (inside (find termi
 
 pub ulr-imei : (m : List ℕ) → isUlr m ≡ true → imeiOf m ≡ imeiAsked m
 unfolding has usedIn commandOf commandIn commands
-ulr-imei m e = imei-asked m 316 (eqb-true (commandCode m) 316 e) refl
+ulr-imei m e = imei-asked m ulr (eqb-true (commandCode m) ulr e) refl
 
 pub nor-imei : (m : List ℕ) → isNor m ≡ true → imeiOf m ≡ imeiAsked m
 unfolding has usedIn commandOf commandIn commands
-nor-imei m e = imei-asked m 323 (eqb-true (commandCode m) 323 e) refl
+nor-imei m e = imei-asked m nor (eqb-true (commandCode m) nor e) refl
 
 pub imei-from : {sent asked : Option Placed} {r r₁ r₂ : List ℕ} → imeiIn r₁ ≡ imeiIn r → sent ≡ asked → Imei sent r₁ r₂ → Imei asked r r₂
 imei-from e a s = record { stored = λ p q. s .stored p (a ∙ q); absent = λ q. s .absent (a ∙ q) ∙ e }

@@ -6,6 +6,7 @@ use mathlib.Core.List.{List}
 use Prim.Native.Nat.{ℕ, _<_}
 use lib.Dec.{eqb}
 use borrow.Author.Tests.{eqb-true}
+use Rattle.paper.specs.Profile.{ulr, pur, nor}
 use Rattle.paper.specs.Table.{recordOf, countOf, valid, mme, sgsn}
 use Rattle.paper.specs.Request.{commandCode, imeiOf}
 use Rattle.paper.specs.Procedures.{Done, sender, isUlr, isPur, isNor, norSingleRegistration, codeIf, withImei, cancelList, notified, notify, carriedOut}
@@ -59,9 +60,9 @@ nor-carried : (m : List ℕ) (i : ℕ) (t : List ℕ) → isNor m ≡ true
     → carriedOut m i t ≡ withImei (imeiOf m) i (notified (codeIf (norSingleRegistration m) 1) (sender m) (recordOf t i) i t)
 unfolding carriedOut notify
 nor-carried m i t n =
-    let code = eqb-true (commandCode m) 323 n in
-    let not-ulr : isUlr m ≡ false = ap (λ (c : ℕ). eqb c 316) code in
-    let not-pur : isPur m ≡ false = ap (λ (c : ℕ). eqb c 321) code in
+    let code = eqb-true (commandCode m) nor n in
+    let not-ulr : isUlr m ≡ false = ap (λ (c : ℕ). eqb c ulr) code in
+    let not-pur : isPur m ≡ false = ap (λ (c : ℕ). eqb c pur) code in
     rw (not-ulr, not-pur)
 
 -- "NOR: [..]"

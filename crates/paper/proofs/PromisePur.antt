@@ -17,7 +17,7 @@ use Rattle.wire.proofs.StretchLaws.{same-equal, same-differ}
 use Rattle.paper.specs.Avp.{bit}
 use Rattle.paper.specs.Reader.{Placed}
 use Rattle.paper.specs.Layout.{recordSize}
-use Rattle.paper.specs.Profile.{purFlags, puaFlags}
+use Rattle.paper.specs.Profile.{purFlags, puaFlags, ulr, pur}
 use Rattle.paper.specs.Table.{recordRight, recordOf, countOf, valid, Slot, mme, sgsn, nameOf}
 use Rattle.paper.specs.Request.{commandCode, avpsOf, find, valueOf, numberOf, isThere, isName}
 use Rattle.paper.specs.Procedures.{Done, sender, isUlr, isPur, sameName, isSender, registered, purges, purgedIf, purged, purgeUe, carriedOut}
@@ -167,7 +167,7 @@ module _ (m : List ℕ) (ok : Laws.Accepted m) (i : ℕ) (t : List ℕ) (e : val
 pur-carried : (m : List ℕ) (i : ℕ) (t : List ℕ) → isPur m ≡ true → carriedOut m i t ≡ purged (purgesOf mme m (recordOf t i)) (purgesOf sgsn m (recordOf t i)) i t
 unfolding carriedOut purgeUe
 pur-carried m i t p =
-    let not-ulr : isUlr m ≡ false = ap (λ (c : ℕ). eqb c 316) (eqb-true (commandCode m) 321 p) in
+    let not-ulr : isUlr m ≡ false = ap (λ (c : ℕ). eqb c ulr) (eqb-true (commandCode m) pur p) in
     rw (not-ulr, p)
 
 -- "PUR: [..]"

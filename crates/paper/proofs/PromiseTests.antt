@@ -13,7 +13,7 @@ use Rattle.wire.proofs.ListLaws.{and-true-left, and-true-right}
 use Rattle.dictionary.specs.declared.Kind.{Kind}
 use Rattle.dictionary.specs.declared.Kind.the-variants.{Four, Eight, Any, Group, Closed, Unknown}
 use Rattle.dictionary.specs.Kinds.{sizeRight}
-use Rattle.paper.specs.Reader.{Placed, Avps, whole, broken, more, avps, bodyAt, bare, Faulty, View, orElse, _then_, nothing, faulty, unknown, single, sized, group, each, byKind, viewAvp, view}
+use Rattle.paper.specs.Reader.{Placed, Avps, whole, broken, more, avps, bodyAt, bare, Faulty, View, orElse, _then_, nothing, faulty, unknown, single, sized, group, each, byKind, viewAvp, view, mostGroups}
 use Rattle.paper.specs.Profile.{Key, Command, userName, originHost, visitedPlmnId, imei, commands, commandIn, commandOf}
 use Rattle.paper.specs.Request.{Refusal, versionOf, messageLength, isError, commandCode, applicationOf, avpsOf, viewOf, isThere, find, used, requiredIn, terminal, imeiOf, keyNumber, ifUsed, versionTest, lengthTest, errorTest, ofFault, faultTest, applicationTest, isCommand, commandTest, ofFound, unsupportedTest, repeatedTest, firstAbsent, missing, absentTest, valueTest, imsiDigits, isName, threeBytes, imeiDigits, valuesTest, refusal}
 use Rattle.paper.specs.Procedures.{ratBits, ratRefused}
@@ -105,7 +105,7 @@ module _ (kind : ℕ → ℕ → Kind) (seen : ℕ → ℕ → List ℕ → List
 
 message-right : (m : List ℕ) → faultRight (viewOf m .fault) ≡ true
 unfolding viewOf view
-message-right m = each-right _ (avp-right _ _ 8) _
+message-right m = each-right _ (avp-right _ _ mostGroups) _
 
 refused-fault : (f : Option Faulty) (d : Said) → faultRight f ≡ true
     → refusedBy (ofFault f) d ≡ cond (faultOf 5014 f) (result 5014) (cond (faultOf 5004 f) (result 5004) d)

@@ -2,49 +2,19 @@
 -- Assumes nothing.
 use mathlib.Core.Path.{_≡_, refl}
 use mathlib.Core.Bool.{Bool, true, false}
-use mathlib.Core.Option.{some}
 use mathlib.Core.List.{List}
 use Prim.Native.Nat.{ℕ, _+_}
 use Rattle.wire.specs.Number.{numAt}
-use Rattle.dictionary.specs.declared.Kind.{Kind}
-use Rattle.dictionary.specs.declared.Kind.the-variants.{Four, Eight, Any, Group, Closed, Unknown}
-use Rattle.dictionary.specs.Rows.{kindOf}
 use Rattle.paper.specs.declared.Verdict.the-variants.{Base, Experimental}
 use Rattle.paper.specs.declared.Failed.{Failed}
-use Rattle.paper.specs.declared.Failed.the-variants.{Nothing, Missing}
+use Rattle.paper.specs.declared.Failed.the-variants.{Nothing}
 use Rattle.paper.specs.declared.Extra.{Extra}
 use Rattle.paper.specs.declared.Extra.the-variants as Extra
-use Rattle.paper.specs.Avp.{flagsFor}
 use Rattle.paper.specs.Layout.{ambrAt}
-use Rattle.paper.specs.Profile.{Key}
-use Rattle.paper.specs.Request.{Refusal, blank, missing}
+use Rattle.paper.specs.Request.{Refusal}
 use Rattle.paper.specs.Procedures.{restrictionOf, Done, isUlr, isPur, skipSubscriberData}
 use Rattle.paper.specs.Outcome.{refusalReply, experimentalReply, successItems, successReply}
 use Rattle.paper.specs.Shown.{failedIn, extraOf, replyOf}
-
--- ---- Failed-AVP
-
--- the kind has 4 bytes
-abbrev pub isFour : Kind → Bool
-isFour Four = true
-isFour Eight = false
-isFour Any = false
-isFour Group = false
-isFour Closed = false
-isFour Unknown = false
-
--- an absent AVP, by its key and whether its type has 4 bytes
-pub missing-shown : (m : List ℕ) (k : Key) {four : Bool} → four ≡ isFour (kindOf (k .vendor) (k .code)) → failedIn m (Missing (k .vendor) (k .code) four) ≡ some (missing k)
-unfolding failedIn missing blank
-missing-shown m k e = rw e (go (kindOf (k .vendor) (k .code)))
-  where
-    go : (d : Kind) → failedIn m (Missing (k .vendor) (k .code) (isFour d)) ≡ some (record { code = k .code; flags = flagsFor (k .vendor) true; vendor = k .vendor; body = blank d })
-    go Four = refl
-    go Eight = refl
-    go Any = refl
-    go Group = refl
-    go Closed = refl
-    go Unknown = refl
 
 -- ---- the AVPs of a success
 

@@ -18,7 +18,7 @@ use Rattle.paper.specs.Widened.{OneAvp, Widened, mended, leftOf, strippe
 use Rattle.paper.proofs.AvpsLaws.{avps-empty, avps-more, avps-broken, avps-induction, sizes-most}
 use Rattle.paper.proofs.ViewLaws.{orElse-none, view-deep, view-group, view-known, view-one}
 use Rattle.paper.proofs.PlaceLaws.{standing}
-use Rattle.paper.proofs.WidenedView.{clear-nothing, clear-then, widened-view}
+use Rattle.paper.proofs.WidenedView.{clear-nothing, clear-then}
 use Rattle.paper.proofs.WrittenLaws.{length-as-received, mended-writable, one-written, read-as-received, read-writable, bytes-after, bytes-body}
 use Rattle.paper.proofs.Narrow.{Sort, entered, passedBy, taken, sortOf, group-known, Narrow, narrow-widens, faulty-is, sized-right}
 
@@ -276,8 +276,3 @@ module _ (kind : ℕ → ℕ → Kind) where
     -- without its unknown AVPs a stretch that has no fault has nothing to refuse
     pub stripped-clear : (left at at′ : ℕ) (s : List ℕ) → Bytes s → (view kind seen left at s) .fault ≡ none → Clear (view kind seen left at′ (stripped kind left s))
     stripped-clear left at at′ s b e = list-clear left (avp-clear left) at s b e at′
-
-    -- and knows what the stretch knows
-    pub stripped-known : (left at at′ : ℕ) (s : List ℕ) → Bytes s → (view kind seen left at s) .fault ≡ none
-        → (view kind seen left at s) .known ≡ (view kind seen left at′ (stripped kind left s)) .known
-    stripped-known left at at′ s b e = widened-view kind seen (widened-stripped left at s b e) left at′ at (stripped-clear left at at′ s b e) .known

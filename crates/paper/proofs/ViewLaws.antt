@@ -16,8 +16,8 @@ use Rattle.paper.specs.declared.Visit.{Visit}
 use Rattle.paper.specs.declared.Visit.the-variants.{Clean, Fault, Unsupported}
 use Rattle.paper.specs.Avp.{hasM, padded, lengthOf, framed, after, avpOf}
 use Rattle.paper.specs.Reader.{Placed, Avps, broken, more, placed, stump, Faulty, Known, end, leaf, node, View, orElse, beside, _then_, nothing, faulty, unknown, bodyAt, bare, single, sized, group, each, byKind, kindOf, seenOf, viewAvp, view, tell, told, join}
-use Rattle.paper.specs.Widened.{OneAvp, Clear}
-use Rattle.paper.proofs.AvpsLaws.{avps-empty, avps-step, avps-more, avps-broken, avps-one}
+use Rattle.paper.specs.Widened.{OneAvp}
+use Rattle.paper.proofs.AvpsLaws.{avps-empty, avps-more, avps-broken, avps-one}
 
 -- ---- what comes first
 
@@ -68,10 +68,6 @@ join-assoc (Unsupported a e) (Unsupported a′ e′) Clean = refl
 join-assoc (Unsupported a e) (Unsupported a′ e′) (Fault c a″ e″) = refl
 join-assoc (Unsupported a e) (Unsupported a′ e′) (Unsupported a″ e″) = refl
 
-pub clean-join : (v : Visit) → join Clean v ≡ v
-unfolding join
-clean-join v = refl
-
 pub join-clean : (v : Visit) → join v Clean ≡ v
 unfolding join
 join-clean Clean = refl
@@ -106,20 +102,6 @@ pub told-group : (v : View) (p : Placed) → told (group v p) ≡ told v
 unfolding told group
 told-group v p = refl
 
--- nothing to refuse: `Clear` says it of the view, `Clean` of what is told
-pub clean-clear : (v : View) → told v ≡ Clean → Clear v
-unfolding told tell
-clean-clear v e = go (v .fault) (v .unsupported) refl refl e
-  where
-    go : (f : Option Faulty) (u : Option Placed) → v .fault ≡ f → v .unsupported ≡ u → tell f u ≡ Clean → Clear v
-    go (some f) u p q r = let z : _≡_ {A = ℕ} 0 1 = cc in absurd (omega arith)
-    go none (some u) p q r = let z : _≡_ {A = ℕ} 0 1 = cc in absurd (omega arith)
-    go none none p q r = record { fault = p; unsupported = q }
-
-pub clear-clean : (v : View) → Clear v → told v ≡ Clean
-unfolding told tell
-clear-clean v c = rw (c .fault, c .unsupported)
-
 -- ---- views in a row
 
 pub then-assoc : (u v w : View) → (u then v) then w ≡ u then (v then w)
@@ -134,10 +116,6 @@ then-assoc u v w =
 pub nothing-then : (v : View) → nothing then v ≡ v
 unfolding _then_ nothing beside
 nothing-then v = refl
-
-pub then-nothing : (v : View) → v then nothing ≡ v
-unfolding _then_ nothing
-then-nothing v = λ i. record { fault = orElse-right (v .fault) i; unsupported = orElse-right (v .unsupported) i; known = beside-right (v .known) i }
 
 -- ---- the equations
 
@@ -159,12 +137,6 @@ module _ (kind : ℕ → ℕ → Kind) (seen : ℕ → ℕ → List ℕ → List
   unfolding each
   each-cond one true p q rest = refl
   each-cond one false p q rest = refl
-
-  pub view-step : (left at : ℕ) (s : List ℕ) → 1 ≤ length s
-      → view kind seen left at s
-      ≡ cond (framed s) (viewAvp kind seen left (placed at s) then view kind seen left (at + padded (lengthOf s)) (after s)) (faulty 5014 (stump at s))
-  unfolding view
-  view-step left at s h = ap (each (viewAvp kind seen left)) (avps-step at s h) ∙ each-cond (viewAvp kind seen left) (framed s) (placed at s) (stump at s) _
 
   pub view-more : (left at : ℕ) (s : List ℕ) → framed s ≡ true
       → view kind seen left at s ≡ viewAvp kind seen left (placed at s) then view kind seen left (at + padded (lengthOf s)) (after s)
@@ -213,11 +185,3 @@ module _ (kind : ℕ → ℕ → Kind) (seen : ℕ → ℕ → List ℕ → List
 
   pub told-empty : (left at : ℕ) → told (view kind seen left at []) ≡ Clean
   told-empty left at = ap told (view-empty left at) ∙ told-nothing
-
-  pub told-more : (left at : ℕ) (s : List ℕ) → framed s ≡ true
-      → told (view kind seen left at s) ≡ join (told (viewAvp kind seen left (placed at s))) (told (view kind seen left (at + padded (lengthOf s)) (after s)))
-  told-more left at s e = ap told (view-more left at s e) ∙ told-then (viewAvp kind seen left (placed at s)) _
-
-  pub told-broken : (left at : ℕ) (s : List ℕ) → 1 ≤ length s → framed s ≡ false → told (view kind seen left at s) ≡ Fault 5014 at (at + length s)
-  unfolding stump
-  told-broken left at s h e = ap told (view-broken left at s h e) ∙ told-faulty 5014 (stump at s)

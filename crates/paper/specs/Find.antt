@@ -8,6 +8,8 @@ use lib.ListN.{drop}
 use lib.Dec.{eqb}
 use Rattle.dictionary.specs.Rows.{keyOf}
 use Rattle.paper.specs.Avp.{Avp}
+use Rattle.paper.specs.Layout.{messageHeader}
+use Rattle.paper.specs.Profile as Profile
 use Rattle.paper.specs.Reader.{Placed, Avps, whole, broken, more, avps}
 
 -- "An AVP's key is (vendor, code)"
@@ -38,6 +40,6 @@ firstSecond keys met (more p rest) =
     (cond (member (keyOf (p .avp .vendor) (p .avp .code)) met) (some p) (firstSecond keys (keyOf (p .avp .vendor) (p .avp .code) ∷ met) rest))
     (firstSecond keys met rest)
 
--- "Origin-Host, once found, is handed on as that stretch of the request itself": its data in the message `m`, whose AVPs start behind the 20 bytes of the header
+-- "Origin-Host, once found, is handed on as that stretch of the request itself": its data in the message `m`, whose AVPs start behind the header
 unfoldable pub originHost : List ℕ → List ℕ
-originHost m = bodyFound (firstOf 0 264 (avps 20 (drop 20 m)))
+originHost m = bodyFound (firstOf (Profile.originHost .vendor) (Profile.originHost .code) (avps messageHeader (drop messageHeader m)))

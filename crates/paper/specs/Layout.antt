@@ -65,6 +65,14 @@ ambrAt = 196
 abbrev pub imeiAt : ℕ
 imeiAt = 204
 
+-- "IMSI: digit count 6–15"
+abbrev pub leastImsi : ℕ
+leastImsi = 6
+
+-- "IMEI digit count 0, 14 or 15"
+abbrev pub leastImei : ℕ
+leastImei = 14
+
 -- the longest IMSI and IMEI
 abbrev pub mostDigits : ℕ
 mostDigits = 15

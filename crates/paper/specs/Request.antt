@@ -14,7 +14,7 @@ use Rattle.dictionary.specs.Rows.{keyOf, kindOf}
 use Rattle.paper.specs.Avp.{Avp, bit, flagsFor}
 use Rattle.paper.specs.Reader.{Placed, Avps, whole, avps, bodyAt, View, Faulty, view, mostGroups, orElse}
 use Rattle.paper.specs.Find.{firstOf, bodyFound, firstSecond}
-use Rattle.paper.specs.Layout.{messageHeader, mostName}
+use Rattle.paper.specs.Layout.{messageHeader, mostName, plmnSize, leastImsi, leastImei, mostDigits}
 use Rattle.paper.specs.Profile.{Key, Command, application, commandOf, userName, originHost, visitedPlmnId, terminalInformation, imei}
 
 -- ---- the header, RFC 6733 section 3; a byte past the end reads as 0
@@ -190,17 +190,17 @@ valueTest right none = none
 valueTest right (some p) = cond (right (p .avp .body)) none (refuse 5004 (some (p .avp)))
 
 unfoldable pub imsiDigits : List ℕ → Bool
-imsiDigits x = (leb 6 (length x) && leb (length x) 15) && digits x
+imsiDigits x = (leb leastImsi (length x) && leb (length x) mostDigits) && digits x
 
 -- "Own host and realm 1 to 64 bytes each"; "A name byte is 0x21 to 0x7E; names hold no other"
 unfoldable pub isName : List ℕ → Bool
 isName x = (leb 1 (length x) && leb (length x) mostName) && nameBytes x
 
 unfoldable pub threeBytes : List ℕ → Bool
-threeBytes x = eqb (length x) 3
+threeBytes x = eqb (length x) plmnSize
 
 unfoldable pub imeiDigits : List ℕ → Bool
-imeiDigits x = (eqb (length x) 14 || eqb (length x) 15) && digits x
+imeiDigits x = (eqb (length x) leastImei || eqb (length x) mostDigits) && digits x
 
 abbrev pub ifUsed : Key → List ℕ → Option Placed
 ifUsed k m = cond (has k (used m)) (find k (avpsOf m)) none

@@ -1,11 +1,10 @@
 -- What code hands to the writer of an answer, in the paper's words: the verdict, the AVP that Failed-AVP shows, the AVPs of a success.
 -- Assumes nothing.
-use mathlib.Core.Path.{_≡_}
 use mathlib.Core.Bool.{Bool, true, cond}
 use mathlib.Core.Option.{Option, none, some}
 use mathlib.Core.List.{List, [], _++_}
-use Prim.Native.Nat.{ℕ, _-_, _≤_}
-use lib.ListN.{length, replicate}
+use Prim.Native.Nat.{ℕ, _-_}
+use lib.ListN.{replicate}
 use Rattle.wire.specs.Put.{part}
 use Rattle.paper.specs.declared.Verdict.{Verdict}
 use Rattle.paper.specs.declared.Verdict.the-variants.{Base, Experimental}
@@ -13,7 +12,7 @@ use Rattle.paper.specs.declared.Failed.{Failed}
 use Rattle.paper.specs.declared.Failed.the-variants.{Nothing, Whole, Bare, Missing}
 use Rattle.paper.specs.declared.Extra.{Extra}
 use Rattle.paper.specs.declared.Extra.the-variants as Extra
-use Rattle.paper.specs.Avp.{Avp, framed, avpOf, bareOf, flagsFor}
+use Rattle.paper.specs.Avp.{Avp, avpOf, bareOf, flagsFor}
 use Rattle.paper.specs.Profile.{ulaFlags, puaFlags}
 use Rattle.paper.specs.Answer as Answer
 use Rattle.paper.specs.Answer.{Reply, numberItem, subscriptionOf}
@@ -37,13 +36,6 @@ failedIn m Nothing = none
 failedIn m (Whole at to) = some (avpOf (stretch m at to))
 failedIn m (Bare at to) = some (bareOf (stretch m at to))
 failedIn m (Missing vendor code four) = some (absent vendor code four)
-
--- what is shown can be read: a place inside the request, and of a whole AVP a right length
-abbrev pub Readable : List ℕ → Failed → Type 0
-Readable m Nothing = Unit {0}
-Readable m (Whole at to) = (at ≤ to) × (to ≤ length m) × (framed (stretch m at to) ≡ true)
-Readable m (Bare at to) = (at ≤ to) × (to ≤ length m)
-Readable m (Missing vendor code four) = Unit {0}
 
 -- "on success ULA-Flags 1, and Subscription-Data unless skipped, or PUA-Flags"
 unfoldable pub extraOf : Extra → List ℕ

@@ -27,7 +27,7 @@ pub record StandsIn (m : List ℕ) (p : Placed) : Type 0 where
 abbrev pub Standing : List ℕ → Option Placed → Type 0
 Standing m o = (p : Placed) → o ≡ some p → StandsIn m p
 
--- the places of a Failed-AVP lie inside the request, and what it shows whole is an AVP whose length is right
+-- what Failed-AVP shows can be read: its places lie inside the request, and what it shows whole is an AVP whose length is right
 abbrev pub ShownIn : List ℕ → Failed → Type 0
 ShownIn m Nothing = Unit {0}
 ShownIn m (Whole at to) = LiesIn m at to × (framed (stretch m at to) ≡ true)

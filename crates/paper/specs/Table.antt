@@ -9,7 +9,7 @@ use lib.Dec.{leb, ltb, eqb}
 use Rattle.wire.specs.Number.{num, numAt}
 use Rattle.wire.specs.Put.{part, put}
 use Rattle.wire.specs.Stretch.{same, nameBytes, digits, zeros}
-use Rattle.paper.specs.Layout.{tableHeader, tableVersion, recordSize, mostRecords, imsiAt, imsiSize, changeAt, subscriptionAt, plmnCountAt, plmnsAt, plmnSize, mostPlmns, purgedAt, mmeAt, sgsnAt, mostName, imeiAt, mostDigits}
+use Rattle.paper.specs.Layout.{tableHeader, tableVersion, recordSize, mostRecords, imsiAt, imsiSize, changeAt, subscriptionAt, plmnCountAt, plmnsAt, plmnSize, mostPlmns, purgedAt, mmeAt, sgsnAt, mostName, imeiAt, leastImsi, leastImei, mostDigits}
 
 -- ---- the rules of a record, row by row of 01's table
 
@@ -29,7 +29,7 @@ unlisted at n = record { at = at; holds = λ r. zeros (part at n r) }
 
 -- "IMSI: digit count 6–15, ASCII digits, then zeros"
 unfoldable pub imsiRight : List ℕ → Bool
-imsiRight = counted (λ n. leb 6 n && leb n mostDigits) digits mostDigits imsiAt
+imsiRight = counted (λ n. leb leastImsi n && leb n mostDigits) digits mostDigits imsiAt
 
 -- a byte of which bits 0 and 1 have a meaning: "other unused bits [..] are zero"
 unfoldable pub twoBits : ℕ → List ℕ → Bool
@@ -59,7 +59,7 @@ purgedRight r =
 
 -- "IMEI digit count 0, 14 or 15, ASCII digits"
 unfoldable pub imeiRight : List ℕ → Bool
-imeiRight = counted (λ n. eqb n 0 || (eqb n 14 || eqb n 15)) digits mostDigits imeiAt
+imeiRight = counted (λ n. eqb n 0 || (eqb n leastImei || eqb n mostDigits)) digits mostDigits imeiAt
 
 -- the rows of 01's table in their order; "Bytes 24–27, 196–203 and counted PLMNs are free", and so is the change number
 unfoldable pub rules : List Rule

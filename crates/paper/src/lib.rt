@@ -1,5 +1,7 @@
 // Document 01 as definitions: a crate without functions. The statements stand in specs/, a file a section of the paper; their laws and the
-// promises made of them in proofs/. A reviewer reads this folder beside 01.
+// promises made of them in proofs/. A reviewer reads this folder beside 01. Here are the types that they speak of, and 01's numbers for code.
+pub mod layout;
+pub mod profile;
 
 // What the message reader answers of the AVPs of a message: "first fault of the visit", "visited unknown AVP with M set; the first", or neither.
 // A place counts from the start of the message; `end` is the end of what encloses the AVP.

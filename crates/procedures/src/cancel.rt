@@ -1,7 +1,8 @@
 // The list of nodes to cancel, in the cancel buffer: "two entries of 68 bytes, filled from the first".
 use crate::nodes::Slot;
 use crate::nodes::same_name;
-use table::layout::MOST_NAME;
+use paper::layout::CANCEL_SIZE;
+use paper::layout::MOST_NAME;
 ghost use mathlib.Core.Path.{_≡_};
 ghost use mathlib.Core.List.{[], _++_};
 ghost use Prim.Native.Nat.{_+_, _≤_};
@@ -12,9 +13,6 @@ ghost use Rattle.paper.specs.Table.{recordOf};
 ghost use Rattle.paper.specs.Procedures.{listed, cancelList, entryBytes, cancelBytes};
 ghost use Rattle.paper.proofs.EntryLaws.{listBytes};
 ghost use Rattle.procedures.specs.Values.{slotOf, IsNode, Held, typeOf};
-
-// The cancel buffer: two entries.
-pub const CANCEL_SIZE: usize = 136;
 
 // Whether a node is cancelled, and with which Cancellation-Type.
 pub enum Cancel {

@@ -1,13 +1,7 @@
-// The commands, and the bits of their flag words that 01 uses: clauses 7.3.7, 7.3.49 and 7.3.149.
+// The bits of flag words that 01 uses: clauses 7.3.7, 7.3.49 and 7.3.149.
 ghost use mathlib.Core.Path.{_≡_};
 ghost use Prim.Native.Nat.{_<_};
 ghost use Rattle.paper.specs.Avp.{bit};
-
-pub const ULR: u32 = 316;
-
-pub const PUR: u32 = 321;
-
-pub const NOR: u32 = 323;
 
 // Of ULR-Flags and of NOR-Flags.
 pub const SINGLE_REGISTRATION: u32 = 0;

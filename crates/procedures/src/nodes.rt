@@ -1,6 +1,6 @@
 // The nodes of a record: MME and SGSN are two slots of one description. Names are compared here and nowhere else.
-use table::layout::MME_AT;
-use table::layout::SGSN_AT;
+use paper::layout::MME_AT;
+use paper::layout::SGSN_AT;
 ghost use mathlib.Core.Path.{_≡_};
 ghost use Rattle.paper.specs.Table.{mme, sgsn, recordOf};
 ghost use Rattle.paper.specs.Procedures.{sameName, isSender};

@@ -1,13 +1,13 @@
 // The Experimental results that a record gives: 5420, 5421, 5004, 5423, "first that applies". 5001, no such IMSI, is the caller's.
-use crate::flags::NOR;
 use crate::flags::S6A_INDICATOR;
-use crate::flags::ULR;
 use crate::flags::bit_of;
 use crate::nodes::is_sender;
 use crate::nodes::mme_slot;
 use crate::nodes::sgsn_slot;
 use paper::Asked;
 use paper::ExperimentalCode;
+use paper::profile::NOR;
+use paper::profile::ULR;
 ghost use mathlib.Core.Path.{_≡_};
 ghost use mathlib.Core.List.{List};
 ghost use Prim.Native.Nat.{ℕ, _<_};

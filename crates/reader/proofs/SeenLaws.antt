@@ -58,6 +58,3 @@ module _ (kind : ℕ → ℕ → Kind) (seen seen′ : ℕ → ℕ → List ℕ 
   pub view-alike : (left at : ℕ) (s : List ℕ) → Alike (view kind seen left at s) (view kind seen′ left at s)
   unfolding view
   view-alike left at s = each-alike (viewAvp kind seen left) (viewAvp kind seen′ left) (avp-alike left) (avps at s)
-
-  pub told-seen : (left at : ℕ) (s : List ℕ) → told (view kind seen left at s) ≡ told (view kind seen′ left at s)
-  told-seen left at s = alike-told (view-alike left at s)

@@ -3,6 +3,7 @@ ghost use mathlib.Core.Path.{_≡_};
 ghost use Prim.Native.Nat.{_≤_};
 ghost use Rattle.wire.specs.Number.{numAt};
 ghost use Rattle.reader.specs.Header.{headerOf};
+use paper::layout::MESSAGE_HEADER;
 use wire::number::byte_or_zero;
 use wire::number::get_cut;
 use wire::number::get_u24;
@@ -47,7 +48,7 @@ fn read_cut_header(m: &[u8]) -> Header
 pub fn read_header(m: &[u8]) -> Header
     ensures { λ r. ⌜ r ≡ headerOf (now (m .entry)) ⌝ }
 {
-    if m.len() < 20 {
+    if m.len() < MESSAGE_HEADER {
         return read_cut_header(m);
     }
     Header {

@@ -17,6 +17,8 @@ use avp::cursor::has_m;
 use dictionary::Kind;
 use dictionary::lookup;
 use paper::Visit;
+use paper::layout::MESSAGE_HEADER;
+use paper::layout::MOST_GROUPS;
 
 // What is told of two stretches in a row: a fault anywhere wins, then the first unknown AVP with M.
 fn joined(a: Visit, b: Visit) -> Visit
@@ -113,13 +115,19 @@ fn visit_avp(keys: &[u64], kinds: &[u8], s: &[u8], a: Avp, base: usize, left: us
     }
 }
 
-// The visit of a message: eight groups may be entered, one in another. A message without a whole header holds no AVP.
+// The visit of a message. A message without a whole header holds no AVP.
 pub fn visit(keys: &[u64], kinds: &[u8], m: &[u8]) -> Visit
     requires { ⌜ Lent (now keys) (now kinds) ⌝ }
     ensures { λ r. ⌜ r ≡ visitOf (kindIn (now (keys .entry)) (now (kinds .entry))) (now (m .entry)) ⌝ }
 {
-    if m.len() < 20 {
+    if m.len() < MESSAGE_HEADER {
         return Visit::Clean;
     }
-    visit_list(keys, kinds, &m[20..], 20, 8)
+    visit_list(
+        keys,
+        kinds,
+        &m[MESSAGE_HEADER..],
+        MESSAGE_HEADER,
+        MOST_GROUPS,
+    )
 }

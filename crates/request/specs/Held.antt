@@ -4,6 +4,7 @@ use mathlib.Core.Path.{_≡_}
 use mathlib.Core.List.{List}
 use Prim.Native.Nat.{ℕ, _≤_}
 use lib.ListN.{length}
+use Rattle.paper.specs.Layout.{messageHeader}
 use Rattle.paper.specs.Reader.{Avps}
 use Rattle.paper.specs.Profile.{commandOf}
 use Rattle.paper.specs.Request.{commandCode}
@@ -14,7 +15,7 @@ use Rattle.request.specs.Profile.{rowOf}
 
 -- the message has a whole header, and `c` is its command
 pub record Ready (m : List ℕ) (c : Command) : Type 0 where
-  pub long : 20 ≤ length m
+  pub long : messageHeader ≤ length m
   pub own : rowOf c ≡ commandOf (commandCode m)
 
 -- `l` is the list of AVPs that stands at the stretch `s` of `m`

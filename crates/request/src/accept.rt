@@ -2,6 +2,7 @@
 ghost use mathlib.Core.Path.{_≡_};
 ghost use Prim.Native.Nat.{_≤_};
 ghost use lib.ListN.{length};
+ghost use Rattle.paper.specs.Layout.{messageHeader};
 ghost use Rattle.paper.specs.Request.{valueOf};
 ghost use Rattle.paper.specs.Asked.{askedOf};
 ghost use Rattle.request.specs.Profile.{keyAt};
@@ -31,7 +32,7 @@ pub struct Accepted {
 }
 
 fn asked_of(m: &[u8]) -> Asked
-    requires { ⌜ 20 ≤ length (now m) ⌝ }
+    requires { ⌜ messageHeader ≤ length (now m) ⌝ }
     ensures { λ r. ⌜ r ≡ askedOf (now (m .entry)) ⌝ }
 {
     let h = read_header(m);
@@ -51,7 +52,7 @@ fn asked_of(m: &[u8]) -> Asked
 
 // Where the data of the first AVP of a key stands.
 fn value_of(m: &[u8], key: u64) -> Span
-    requires { ⌜ 20 ≤ length (now m) ⌝ }
+    requires { ⌜ messageHeader ≤ length (now m) ⌝ }
     ensures { λ r. ⌜ SpanOf (now (m .entry)) (valueOf (keyAt key) (now (m .entry))) r ⌝ }
 {
     span_of(find_in(m, all_avps(m), key))
@@ -59,7 +60,7 @@ fn value_of(m: &[u8], key: u64) -> Span
 
 // What the request `m` asks. Of a request that is refused the places are right as well, with no bytes where an AVP is absent.
 pub fn accept(m: &[u8]) -> Accepted
-    requires { ⌜ 20 ≤ length (now m) ⌝ }
+    requires { ⌜ messageHeader ≤ length (now m) ⌝ }
     ensures { λ r. ⌜ Accepts (now (m .entry)) r ⌝ }
 {
     let h = read_header(m);

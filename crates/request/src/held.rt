@@ -2,6 +2,7 @@
 ghost use mathlib.Core.Path.{_≡_};
 ghost use Prim.Native.Nat.{_≤_};
 ghost use lib.ListN.{length};
+ghost use Rattle.paper.specs.Layout.{messageHeader};
 ghost use Rattle.paper.specs.Request.{avpsOf, ifUsed, terminal, imeiOf};
 ghost use Rattle.request.specs.Place.{soughtOf};
 ghost use Rattle.request.specs.Profile.{keyAt};
@@ -14,14 +15,15 @@ use crate::profile::Command;
 use crate::profile::IMEI;
 use crate::profile::TERMINAL_INFORMATION;
 use crate::profile::uses;
+use paper::layout::MESSAGE_HEADER;
 
 // Where the AVPs behind the header stand.
 pub fn all_avps(m: &[u8]) -> Span
-    requires { ⌜ 20 ≤ length (now m) ⌝ }
+    requires { ⌜ messageHeader ≤ length (now m) ⌝ }
     ensures { λ r. ⌜ Frames (now (m .entry)) (avpsOf (now (m .entry))) r ⌝ }
 {
     Span {
-        at: 20,
+        at: MESSAGE_HEADER,
         end: m.len(),
     }
 }

@@ -3,6 +3,7 @@ ghost use mathlib.Core.Path.{_≡_};
 ghost use mathlib.Core.List.{List, [], _∷_};
 ghost use Prim.Native.Nat.{ℕ, _≤_};
 ghost use lib.ListN.{length};
+ghost use Rattle.paper.specs.Layout.{messageHeader};
 ghost use Rattle.paper.specs.Request.{first, versionTest, lengthTest, errorTest, refusal};
 ghost use Rattle.reader.specs.Header.{headerOf};
 ghost use Rattle.request.specs.Test.{Answers, Dictionary};
@@ -40,7 +41,7 @@ fn judge_header(h: Header, n: usize) -> Test
 
 // The refusal of the request `m`, if one applies. The dictionary is lent as its two arrays.
 pub fn judge(keys: &[u64], kinds: &[u8], m: &[u8]) -> Test
-    requires { ⌜ Dictionary (now keys) (now kinds) × (20 ≤ length (now m)) ⌝ }
+    requires { ⌜ Dictionary (now keys) (now kinds) × (messageHeader ≤ length (now m)) ⌝ }
     ensures { λ r. ⌜ Answers (now (m .entry)) (refusal (now (m .entry))) r ⌝ }
 {
     let h = read_header(m);

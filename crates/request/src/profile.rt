@@ -1,47 +1,43 @@
-// The application as data: its number, its commands, and the AVPs that each command requires and uses. No other file of code has these numbers.
-// A key is one number, vendor * 2^32 + code, as in the dictionary; 3GPP is vendor 10415.
+// The application as data: its commands, and the AVPs that each of them requires and uses. The numbers are those of paper's profile.
+// A key is one number, vendor * 2^32 + code, as in the dictionary.
 ghost use mathlib.Core.Path.{_≡_};
 ghost use Rattle.paper.specs.Find.{member};
 ghost use Rattle.paper.specs.Profile.{commandOf};
 ghost use Rattle.paper.specs.Request.{has, usedIn};
 ghost use Rattle.paper.specs.Asked.{flagsKey};
 ghost use Rattle.request.specs.Profile.{rowOf, keyAt, Lists};
+use paper::profile;
+use paper::profile::NOR;
+use paper::profile::PUR;
+use paper::profile::ULR;
 
-pub const APPLICATION: u32 = 16777251;
+const TGPP: u64 = profile::VENDOR_3GPP as u64 * 4294967296;
 
-const ULR: u32 = 316;
+const SESSION_ID: u64 = profile::SESSION_ID as u64;
 
-const PUR: u32 = 321;
+const AUTH_SESSION_STATE: u64 = profile::AUTH_SESSION_STATE as u64;
 
-const NOR: u32 = 323;
+pub const ORIGIN_HOST: u64 = profile::ORIGIN_HOST as u64;
 
-const TGPP: u64 = 10415 * 4294967296;
+const ORIGIN_REALM: u64 = profile::ORIGIN_REALM as u64;
 
-const SESSION_ID: u64 = 263;
+const DESTINATION_REALM: u64 = profile::DESTINATION_REALM as u64;
 
-const AUTH_SESSION_STATE: u64 = 277;
+pub const USER_NAME: u64 = profile::USER_NAME as u64;
 
-pub const ORIGIN_HOST: u64 = 264;
+pub const RAT_TYPE: u64 = TGPP + profile::RAT_TYPE as u64;
 
-const ORIGIN_REALM: u64 = 296;
+const ULR_FLAGS: u64 = TGPP + profile::ULR_FLAGS as u64;
 
-const DESTINATION_REALM: u64 = 283;
+pub const VISITED_PLMN_ID: u64 = TGPP + profile::VISITED_PLMN_ID as u64;
 
-pub const USER_NAME: u64 = 1;
+const PUR_FLAGS: u64 = TGPP + profile::PUR_FLAGS as u64;
 
-pub const RAT_TYPE: u64 = TGPP + 1032;
+const NOR_FLAGS: u64 = TGPP + profile::NOR_FLAGS as u64;
 
-const ULR_FLAGS: u64 = TGPP + 1405;
+pub const TERMINAL_INFORMATION: u64 = TGPP + profile::TERMINAL_INFORMATION as u64;
 
-pub const VISITED_PLMN_ID: u64 = TGPP + 1407;
-
-const PUR_FLAGS: u64 = TGPP + 1635;
-
-const NOR_FLAGS: u64 = TGPP + 1443;
-
-pub const TERMINAL_INFORMATION: u64 = TGPP + 1401;
-
-pub const IMEI: u64 = TGPP + 1402;
+pub const IMEI: u64 = TGPP + profile::IMEI as u64;
 
 pub enum Command {
     Ulr,

@@ -8,6 +8,7 @@ ghost use Prim.Native.Nat.{ℕ, _≤_};
 ghost use lib.ListN.{length};
 ghost use Rattle.paper.specs.Reader.{told};
 ghost use Rattle.paper.specs.Profile.{commandOf};
+ghost use Rattle.paper.specs.Layout.{messageHeader};
 ghost use Rattle.paper.specs.Request.{commandCode, viewOf, avpsOf, versionTest, lengthTest, errorTest, faultTest, applicationTest, commandTest, unsupportedTest, repeatedTest, firstAbsent, missing, refuse, absentTest, valuesTest};
 ghost use Rattle.reader.specs.Header.{headerOf};
 ghost use Rattle.request.specs.declared.tests.Test.the-variants.{Fine, Fails};
@@ -24,7 +25,6 @@ use crate::place::earlier;
 use crate::place::find_in;
 use crate::place::is_there;
 use crate::place::second_in;
-use crate::profile::APPLICATION;
 use crate::profile::Command;
 use crate::profile::IMEI;
 use crate::profile::ORIGIN_HOST;
@@ -40,6 +40,7 @@ use dictionary::lookup;
 use paper::Failed;
 use paper::ResultCode;
 use paper::Visit;
+use paper::profile::APPLICATION;
 use reader::header::Header;
 
 pub enum Test {
@@ -106,7 +107,7 @@ pub fn error_test(h: Header) -> Test
 
 // 5014 or 5004: the first fault of the visit, shown by its head alone.
 pub fn fault_test(v: Visit) -> Test
-    ensures { λ r. ⌜ ((m : List ℕ) → 20 ≤ length m → v ≡ told (viewOf m) → Answers m (faultTest m) r) ⌝ }
+    ensures { λ r. ⌜ ((m : List ℕ) → messageHeader ≤ length m → v ≡ told (viewOf m) → Answers m (faultTest m) r) ⌝ }
 {
     match v {
         Visit::Fault { code, at, end } => fails_with(code, Failed::Bare { at, end }, false),
@@ -139,7 +140,7 @@ pub fn command_test(c: Command) -> Test
 
 // 5001: the first unknown AVP with M, where the visit has no fault.
 pub fn unsupported_test(v: Visit) -> Test
-    ensures { λ r. ⌜ ((m : List ℕ) → 20 ≤ length m → v ≡ told (viewOf m) → faultTest m ≡ none → Answers m (unsupportedTest m) r) ⌝ }
+    ensures { λ r. ⌜ ((m : List ℕ) → messageHeader ≤ length m → v ≡ told (viewOf m) → faultTest m ≡ none → Answers m (unsupportedTest m) r) ⌝ }
 {
     match v {
         Visit::Unsupported { at, end } => fails_with(5001, Failed::Whole { at, end }, true),
@@ -209,7 +210,7 @@ fn missing(keys: &[u64], kinds: &[u8], key: u64) -> Test
 
 // The first of the required keys that no AVP has.
 fn first_absent(keys: &[u64], kinds: &[u8], m: &[u8], required: &[u64]) -> Test
-    requires { ⌜ Dictionary (now keys) (now kinds) × (20 ≤ length (now m)) ⌝ }
+    requires { ⌜ Dictionary (now keys) (now kinds) × (messageHeader ≤ length (now m)) ⌝ }
     ensures { λ r. ⌜ Answers (now (m .entry)) (firstAbsent (map keyAt (now (required .entry))) (avpsOf (now (m .entry)))) r ⌝ }
 {
     let list = all_avps(m);

@@ -1,7 +1,7 @@
 // Which record has an IMSI: a search by halving, since the IMSIs of a valid table ascend.
 // A key is the 16 bytes of an IMSI as two numbers, so that the order of bytes is that of numbers.
-use crate::layout;
 use crate::record;
+use paper::layout;
 ghost use mathlib.Core.Path.{_≡_};
 ghost use mathlib.Core.Bool.{true};
 ghost use Prim.Native.Nat.{_+_, _≤_};

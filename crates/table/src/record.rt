@@ -1,6 +1,6 @@
 // The fields of record `i`, read and stored. A field's place counts from the start of the record; a store leaves every other byte as it is.
 // What is asked everywhere is that record `i` lies inside the buffer, as every record that `find_record` finds does.
-use crate::layout;
+use paper::layout;
 ghost use mathlib.Core.Path.{_≡_};
 ghost use mathlib.Core.List.{List, [], _∷_};
 ghost use Prim.Native.Nat.{_+_, _*_, _^_, _≤_, _<_};

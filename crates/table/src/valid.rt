@@ -1,9 +1,9 @@
 // Whether bytes are a valid table, for any bytes. This is the hot path: every request tests the whole table first.
 // A record is tested rule by rule, each over a whole stretch by a loop that runs wide; only between two fields may the test be left.
 // A field with a count is held against bounds that are made once and lent: see `Bounds`.
-use crate::layout;
 use crate::lookup;
 use crate::record;
+use paper::layout;
 ghost use mathlib.Core.Path.{_≡_};
 ghost use mathlib.Core.Bool.{true, _&&_};
 ghost use Prim.Native.Nat.{_+_, _-_, _≤_};
@@ -52,7 +52,7 @@ fn right_imsi(r: &[u8], low: &[u8], high: &[u8]) -> bool
     ensures { λ v. ⌜ v ≡ imsiRight (now (r .entry)) ⌝ }
 {
     let n = r[0] as usize;
-    if n < 6 {
+    if n < layout::LEAST_IMSI {
         return false;
     }
     if layout::MOST_DIGITS < n {
@@ -69,7 +69,7 @@ fn right_imei(r: &[u8], low: &[u8], high: &[u8]) -> bool
     if layout::MOST_DIGITS < n {
         return false;
     }
-    ((n == 0) | (n == 14) | (n == 15))
+    ((n == 0) | (n == layout::LEAST_IMEI) | (n == layout::MOST_DIGITS))
         & filled_part(r, layout::IMEI_AT + 1, layout::MOST_DIGITS, n, low, high)
 }
 

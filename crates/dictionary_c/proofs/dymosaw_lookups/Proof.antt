@@ -30,7 +30,9 @@ last-of-requires c κs = let a = c .before .before in lent-rows (a .before .all-
 
 -- src/lib.rt:27:1
 returns : tie.Need-returns
-returns c = search needs
+returns c =
+    let a = c .before .before .before in
+    rw (a .before .all-keys .ensures, a .all-kinds .ensures) at (c .last-of .ensures)
 
 pub dymosaw-lookups-spec : {M : Type 1} → statement M
 dymosaw-lookups-spec =

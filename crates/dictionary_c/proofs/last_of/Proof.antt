@@ -1,4 +1,9 @@
+use mathlib.Core.Path.{_≡_, refl, ap, _∙_}
 use Prim.Native.Nat.{_-_, _≤_}
+use native.Mathlib.Numerals.{add-one}
+use native.Mathlib.Omega.{arith}
+use Rattle.dictionary.specs.Kinds.{numberOf}
+use Rattle.dictionary_c.specs.Lookups.{lastIn}
 use borrow.Author.Needs.{needs}
 use Rattle.dictionary_c.proofs.last_of.Statement.{statement}
 use Rattle.dictionary_c.proofs.last_of.Tie as tie
@@ -8,14 +13,15 @@ use Rattle.dictionary.proofs.lookup.Reads as lookup-reads
 use Rattle.dictionary_c.proofs.number.Reads as number-reads
 
 abbrev Inv-loop : tie.InvT-loop
-Inv-loop keys kinds vendor code n last₀ i₀ last i = i ≤ n
+Inv-loop keys kinds vendor code n last₀ i₀ last i = (i ≤ n) × (last ≡ lastIn keys kinds vendor code i)
 
 abbrev μ-loop : tie.MeasureT-loop
 μ-loop keys kinds vendor code n last₀ i₀ last i = n - i
 
 -- src/lib.rt:21:5
 loop-holds : tie.Need-loop-holds Inv-loop μ-loop
-loop-holds c = search needs
+unfolding lastIn
+loop-holds c = (search needs, refl)
 
 -- src/lib.rt:22:63
 add-lookup : tie.Need-add-lookup Inv-loop μ-loop
@@ -39,11 +45,14 @@ loop-less c = search needs
 
 -- src/lib.rt:21:5
 loop-again : tie.Need-loop-again Inv-loop μ-loop
-loop-again c = search needs
+unfolding lastIn
+loop-again c = (omega arith, rw add-one (c .number .ensures ∙ ap numberOf (c .before .lookup .ensures)))
 
 -- src/lib.rt:17:1
 returns : tie.Need-returns Inv-loop μ-loop
-returns c = search needs
+returns c =
+    let all : c .before .loop .i ≡ c .before .before .before .before .args .n = omega arith in
+    rw all at (c .before .loop .inv .1)
 
 pub last-of-spec : {M : Type 1} → statement M
 last-of-spec =

@@ -29,7 +29,7 @@ put-whole-requires c κs =
     let s = k .before .before .before .before in
     let r = readable-whole (s .args .m .now) (k .failed .given .1) (s .pre .1) in
     let e = ap length (shown-whole (s .args .m .now) (k .failed .given .1)) in
-    (simp (length-take, length-drop) (omega arith), r .2, omega arith)
+    (simp (length-take, length-drop) (omega arith), r .1, omega arith)
 
 enum-known-failed-2 : tie.Need-enum-known-failed-2
 enum-known-failed-2 c = search needs

@@ -6,8 +6,8 @@ use lib.ListN.{length, replicate}
 use Rattle.wire.proofs.PutLaws.{wrote-then, wrote-same}
 use Rattle.paper.specs.Avp.{headSize, padded}
 use Rattle.paper.proofs.AvpLaws.{padded-least}
-use Rattle.avp.specs.Written.{head}
-use Rattle.avp.proofs.WriteLaws.{length-head, length-received, received-parts}
+use Rattle.paper.proofs.WrittenLaws.{headBytes, length-head}
+use Rattle.avp.proofs.WriteLaws.{length-received, received-parts}
 use borrow.Author.Needs.{needs}
 use Rattle.avp.proofs.write.put_as_received.Statement.{statement}
 use Rattle.avp.proofs.write.put_as_received.Tie as tie
@@ -16,7 +16,7 @@ use Rattle.avp.proofs.write.put_as_received.Tie as tie
 room : (s : tie.Start) → s .args .at + (headSize (s .args .flags) + padded (length (s .args .body .now))) ≤ length (s .args .out .now)
 room s = rw length-received at (s .pre .1)
 
-head-length : (s : tie.Start) → length (head (s .args .code) (s .args .flags) (s .args .vendor) (length (s .args .body .now))) ≡ headSize (s .args .flags)
+head-length : (s : tie.Start) → length (headBytes (s .args .code) (s .args .flags) (s .args .vendor) (length (s .args .body .now))) ≡ headSize (s .args .flags)
 head-length s = length-head (s .args .code) (s .args .flags) (s .args .vendor) (length (s .args .body .now))
 
 -- the start, from the place where the padding is known

@@ -7,8 +7,8 @@ use Rattle.wire.specs.Number.{be}
 use Rattle.wire.proofs.PutLaws.{wrote-then, wrote-same}
 use Rattle.paper.specs.Avp.{headSize}
 use Rattle.paper.proofs.AvpLaws.{headSize-least, headSize-most}
-use Rattle.avp.specs.Written.{head}
-use Rattle.avp.proofs.WriteLaws.{flags-and-length, length-head, length-field}
+use Rattle.paper.proofs.WrittenLaws.{headBytes, length-head}
+use Rattle.avp.proofs.WriteLaws.{flags-and-length, length-field}
 use borrow.Author.Needs.{needs}
 use Rattle.avp.proofs.write.put_head.Statement.{statement}
 use Rattle.avp.proofs.write.put_head.Tie as tie
@@ -55,7 +55,7 @@ same-length : tie.Need-same-length
 same-length c = search needs
 
 returns : tie.Need-returns
-unfolding head
+unfolding headBytes
 returns c =
     let h = sized (c .before .before .before) in
     let a = start h .args in
