@@ -20,7 +20,7 @@ from text import correction, message, table  # noqa: E402: the path above comes 
 from text.lines import BadText  # noqa: E402
 
 FIELDS = {1: 6, 2: 2}
-LEAST = {"table": 2000, "table not valid": 50, "free fields": 2000, "frame": 200, "frame refused": 50, "request": 2000, "answer": 1500}
+LEAST = {"table": 1000, "table not valid": 50, "free fields": 1000, "frame": 100, "frame refused": 50, "request": 1000, "answer": 800}
 
 
 def expect(right, words):
@@ -208,9 +208,9 @@ def broken_bytes():
     for at, byte, said in BROKEN:
         text, right = table.show(VALID[:at] + bytes([byte]) + VALID[at + 1:])
         expect(not right and f"breaks: {said}" in text, f"byte {at} set to {byte}: not said: {said}\n" + "\n".join(text))
-    for short in range(8):
-        expect(table.show(VALID[:short]) == ([f"breaks: header, byte 0: the table starts with eight bytes; the file has {short}"] +
-               [], False) or short, "a table under eight bytes")
+    for size in range(8):
+        said = f"breaks: header, byte 0: the table starts with eight bytes; the file has {size}"
+        expect(said in table.show(VALID[:size])[0] and not table.show(VALID[:size])[1], f"a table of {size} bytes")
     expect(message.show(bytes(19))[1] is False, "a message of 19 bytes is taken")
     print(f"{len(BROKEN)} broken tables explained")
 

@@ -45,7 +45,7 @@ FIELDS = {field.key: field for field in [
     Field("AMBR downlink", [(200, 204)], Number(4)),
     Field("IMEI", [(204, 220)], Counted(15, (0, 14, 15), DIGITS, "14 or 15 digits, or nothing", "IMEI digit count 0, 14 or 15, ASCII digits")),
 ]}
-LISTED = {i for field in FIELDS.values() for start, end in field.stretches for i in range(start, end)}
+UNLISTED = sorted(set(range(RECORD)) - {i for field in FIELDS.values() for start, end in field.stretches for i in range(start, end)})
 
 
 def nodes_purged_without_name(record):
@@ -56,7 +56,7 @@ def nodes_purged_without_name(record):
 def faults(record):
     """The rules that the record breaks, each with its byte, in the order of bytes."""
     found = [fault for field in FIELDS.values() for fault in field.faults(record)]
-    found += [(i, "unlisted bytes are zero") for i in range(RECORD) if record[i] and i not in LISTED]
+    found += [(i, "unlisted bytes are zero") for i in UNLISTED if record[i]]
     found += [(56, f"a purge bit needs a name ({node})") for node in nodes_purged_without_name(record)]
     return sorted(found)
 

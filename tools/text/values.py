@@ -49,17 +49,12 @@ class Bits:
 
     def __init__(self, width, names, number=False, rule=None):
         self.width, self.names, self.number, self.rule = width, names, number, rule
-
-    def name(self, bit):
-        return self.names.get(bit, f"bit-{bit}")
-
-    def order(self):
-        """The bits with a name, in the order of the names, then the others."""
-        return list(self.names) + [bit for bit in range(8 * self.width) if bit not in self.names]
+        unnamed = [bit for bit in range(8 * width) if bit not in names]
+        self.bits = {**{name: bit for bit, name in names.items()}, **{f"bit-{bit}": bit for bit in unnamed}}
 
     def show(self, value):
         mask = int.from_bytes(value, "big")
-        names = [self.name(bit) for bit in self.order() if mask >> bit & 1]
+        names = [name for name, bit in self.bits.items() if mask >> bit & 1]
         return " ".join(([str(mask)] if self.number else []) + names)
 
     def make(self, text):
@@ -75,11 +70,10 @@ class Bits:
         return (mask if given is None else given).to_bytes(self.width, "big")
 
     def bit(self, word):
-        for bit in self.names if self.rule else self.order():
-            if word == self.name(bit):
-                return bit
-        known = ", ".join(self.names.values())
-        raise Reason(f"'{word}' is none of {known}" + ("" if self.rule else ", or bit-N"))
+        bit = self.bits.get(word)
+        if bit is None or self.rule and bit not in self.names:
+            raise Reason(f"'{word}' is none of {', '.join(self.names.values())}" + ("" if self.rule else ", or bit-N"))
+        return bit
 
     def faults(self, value):
         mask = int.from_bytes(value, "big")
