@@ -32,6 +32,9 @@ run_test library-named "named cases, by the C library" named_cases "${x86_run[@]
 run_test library-cases "50,000 generated cases through the C library and the second program" compare_cases build/second gen 1 50000
 run_test runs "200 runs of 500 requests and corrections in a row" compare_cases build/second runs 1 200 500
 run_test answers "every answer of 50,000 cases is read by the compiled message reader without a fault" answers_read 1 50000
+run_test reach "zero lengths, greatest sizes, odd addresses and the same call twice, from C" reach
+run_test package "the installed library, linked by examples/link with pkg-config's flags, runs the example's session" tests/package.sh
+run_test text-tool "tools/dymosaw-text: tables, corrections and messages of 1,500 cases there and back; bad text and broken bytes explained" text_tool 7 1500
 
 echo "$passed passed, $failed failed"
 [ "$failed" -eq 0 ]

@@ -389,7 +389,8 @@ static void sizes_of_buffers(void)
     refused(&call, 3, "a cancel buffer of 135 bytes");
 }
 
-/* Lengths that a 32-bit number would take for the usual ones. The bytes behind are never touched, so the pages stay empty. */
+/* Lengths that a 32-bit number would take for usual ones, and a large buffer's for a short one. The bytes behind are never touched, so the
+ * pages stay empty. */
 static void past_32_bits(void)
 {
     static const uint64_t number[PLACES] = {4, 1, 5, 5, 0, 0};
@@ -402,7 +403,8 @@ static void past_32_bits(void)
         struct lent lent[PLACES];
         uint64_t result;
         for (j = 0; j < PLACES; j++) {
-            lent[j] = lend(NULL, call.length[j] + (i == j ? more : 0), START);
+            const size_t cut = j == ANSWERED || j == CANCELLED ? 100 : call.length[j];
+            lent[j] = lend(NULL, i == j ? more + cut : call.length[j], START);
             if (call.bytes[j] != NULL)
                 memcpy(lent[j].at, call.bytes[j], call.length[j]);
         }

@@ -117,6 +117,79 @@ def there_and_back(paths):
     print(", ".join(f"{what}: {count[what]}" for what in LEAST))
 
 
+# ---- by hand: text, and its bytes as document 01 lays them out
+
+RECORD_TEXT = """record
+IMSI: 262011234567890
+change number: 4294967295
+subscription: GPRS
+Access-Restriction-Data: 1073741840 WB-E-UTRAN-Not-Allowed bit-30
+PLMNs: 001-01 310-410 x1234FF
+purged: SGSN
+MME: mme.example
+SGSN: s
+AMBR uplink: 1000
+AMBR downlink: 2000
+IMEI: 352099001761481"""
+RECORD_BYTES = {
+    0: "0F 323632303131323334353637383930", 16: "FFFFFFFF", 20: "02", 24: "40000010", 28: "03", 32: "00F110 130014 1234FF", 56: "02",
+    64: "0B 6D6D652E6578616D706C65", 129: "01 73", 196: "000003E8", 200: "000007D0", 204: "0F 333532303939303031373631343831",
+}
+FRAMES = [
+    ("kind: 1\nIMSI: 123456\nchange number seen: 7\nsubscription: EPS GPRS", "0019 01 01 06313233343536 000000000000000000 00000007 03"),
+    ("kind: 2\nIMSI: 123456\nchange number seen: 7\nAccess-Restriction-Data: 3 UTRAN-Not-Allowed GERAN-Not-Allowed",
+     "001C 01 02 06313233343536 000000000000000000 00000007 00000003"),
+    ("kind: 3\nIMSI: 123456\nchange number seen: 7\nPLMNs: 001-01", "0031 01 03 06313233343536 000000000000000000 00000007 01 00F110" + 21 * "00"),
+    ("kind: 4\nIMSI: 123456\nchange number seen: 7\nAMBR uplink: 1\nAMBR downlink: 256",
+     "0020 01 04 06313233343536 000000000000000000 00000007 00000001 00000100"),
+]
+# A message with each way to write an AVP: by name, by code, with flags, with padding, of a wrong size, in a group that is not filled exactly.
+MESSAGE_TEXT = """version: 1
+flags: P
+command: 316 (Update-Location)
+application: 16777251 (S6a/S6d)
+hop-by-hop: 0x01020304
+end-to-end: 0x0A0B0C0D
+Session-Id: "s;1"
+Result-Code: 5001 (unknown AVP with M set; the first)
+Failed-AVP:
+  AVP 9999 vendor 7 [V M P]: x0102
+ULA-Flags: 1 Separation-Indication
+Subscription-Data:
+  Access-Restriction-Data: 1 UTRAN-Not-Allowed
+User-Name [no flags, padding x01]: "123"
+RAT-Type: x00
+Experimental-Result:
+  Experimental-Result-Code: 5001 (no such IMSI)
+  # 3 bytes are too few for an AVP
+  rest: x010203"""
+MESSAGE_BYTES = """01 0000A4 40 00013C 01000023 01020304 0A0B0C0D
+    00000107 40 00000B 733B3100
+    0000010C 40 00000C 00001389
+    00000117 40 000018 0000270F E0 00000E 00000007 01020000
+    0000057E C0 000010 000028AF 00000001
+    00000578 C0 00001C 000028AF 00000592 C0 000010 000028AF 00000001
+    00000001 00 00000B 31323301
+    00000408 C0 00000D 000028AF 00000000
+    00000129 40 000017 0000012A 40 00000C 00001389 01020300"""
+
+
+def by_hand():
+    record = bytearray(256)
+    for at, digits in RECORD_BYTES.items():
+        stretch = bytes.fromhex(digits)
+        record[at:at + len(stretch)] = stretch
+    pairs = [(table, RECORD_TEXT, bytes.fromhex("00000108 01 00 0001") + record), (message, MESSAGE_TEXT, bytes.fromhex(MESSAGE_BYTES))]
+    pairs += [(correction, text, bytes.fromhex(digits)) for text, digits in FRAMES]
+    for kind, text, made in pairs:
+        expect(kind.make(text) == made, f"made: {kind.make(text).hex()}\nshould be: {made.hex()}")
+        expect(kind.show(made) == (text.split("\n"), True), "shown:\n" + "\n".join(kind.show(made)[0]) + f"\nshould be:\n{text}")
+    unordered = "record\nIMSI: 234567\nrecord\nIMSI: 1234567\nrecord\nIMSI: 123456"
+    imsis = [line for line in table.show(table.make(unordered))[0] if line.startswith("IMSI:")]
+    expect(imsis == ["IMSI: 123456", "IMSI: 234567", "IMSI: 1234567"], f"records in another order: {imsis}")
+    print(f"{len(pairs)} texts as worked by hand")
+
+
 # ---- bad text: what is given, and what is said of it
 
 HEAD = "flags: R\ncommand: 316\napplication: 16777251\nhop-by-hop: 1\nend-to-end: 2\n"
@@ -237,6 +310,7 @@ def command_line():
 
 
 def main():
+    by_hand()
     bad_text()
     broken_bytes()
     command_line()
