@@ -1,7 +1,8 @@
 /* dymosaw.h: the home registry (the HSS side of S6a and S6d) for C.
  *
- * The registry keeps nothing between calls: the subscriber table is lent with every call, and a call allocates no memory.
- * The library libdymosaw.a is for x86-64 and needs memcpy and memset of the C library, nothing else of it.
+ * The registry keeps nothing between calls: the subscriber table is lent with every call. A call allocates no memory and needs
+ * less than 16 KiB of stack (tests/reach.c runs it on that much). The library libdymosaw.a is for x86-64; of the C library it
+ * needs memcpy and memset only.
  *
  * +--------------------------------------------------------------------------------------------------------------------+
  * | WHAT THE CALLER OWES                                                                                               |

@@ -47,7 +47,8 @@ compile() {
     "$x86_cc" "${warnings[@]}" $cflags link.c $libs -o dynamic &&
         "$x86_cc" -g "${warnings[@]}" $cflags link.c $libs -static -o static &&
         "$x86_cc" "${warnings[@]}" -fsanitize=undefined -fsanitize-undefined-trap-on-error $cflags link.c $libs -static -o trapping || fail "compile"
-    cd "$root" && "$x86_cc" "${warnings[@]}" -Ibuild/lib examples/link/link.c -Lbuild/lib -ldymosaw -o "$out/from-repository" || fail "compile from the repository"
+    cd "$root" && "$x86_cc" "${warnings[@]}" -Ibuild/lib examples/link/link.c -Lbuild/lib -ldymosaw -o "$out/from-repository" ||
+        fail "compile from the repository"
 }
 
 # What a person at the site would type, and what is told.
@@ -91,7 +92,7 @@ install_both
 [ "$(asks_for)" = "memcpy memset " ] || fail "the library asks for: $(asks_for)"
 compile
 if [ "$(uname -m)" = x86_64 ]; then
-    run_session valgrind -q --error-exitcode=9 --leak-check=full --show-leak-kinds=all "$out/dynamic"
+    run_session valgrind -q --error-exitcode=9 --leak-check=full "$out/dynamic"
 else
     run_session "${x86_run[@]}" "$out/static"
 fi

@@ -1,8 +1,8 @@
 /* reach: what lies in a C caller's reach, with the numbers of document 01 written out.
  *
- * Zero lengths in every place, greatest sizes, lengths past 32 bits, odd addresses, larger buffers, the same call twice. Every buffer
- * lies against a page that may not be touched: right behind it, or right before it, by turns. So a byte read or written outside ends
- * the run, and a byte that has to stay is compared.
+ * Zero lengths in every place, greatest sizes, lengths past 32 bits, odd addresses, larger buffers, a small stack, the same call
+ * twice. Every buffer lies against a page that may not be touched: right behind it, or right before it, by turns. So a byte read or
+ * written outside ends the run, and a byte that has to stay is compared.
  */
 #define _DEFAULT_SOURCE
 #include "dymosaw.h"
@@ -11,6 +11,7 @@
 #include <stdlib.h>
 #include <string.h>
 #include <sys/mman.h>
+#include <ucontext.h>
 #include <unistd.h>
 
 static unsigned long checks;
@@ -186,6 +187,30 @@ static struct call usual_call(unsigned count)
     return call;
 }
 
+static void lend_all(const struct call *call, struct lent *lent, enum side side)
+{
+    unsigned i;
+    for (i = 0; i < PLACES; i++) {
+        lent[i] = lend(call->bytes[i], call->length[i], side);
+        if (call->bytes[i] == NULL)
+            memset(lent[i].at, FILL, call->length[i]);
+    }
+}
+
+static uint64_t call_with(const struct lent *lent)
+{
+    return dymosaw_request(lent[TABLE].at, lent[TABLE].length, lent[REQUEST].at, lent[REQUEST].length, lent[HOST].at, lent[HOST].length,
+                           lent[REALM].at, lent[REALM].length, lent[ANSWERED].at, lent[ANSWERED].length, lent[CANCELLED].at,
+                           lent[CANCELLED].length);
+}
+
+static void give_back_all(const struct lent *lent)
+{
+    unsigned i;
+    for (i = 0; i < PLACES; i++)
+        give_back(&lent[i]);
+}
+
 /* From byte `from` on every byte is FILL. */
 static int filled(const struct lent *lent, size_t from)
 {
@@ -201,13 +226,8 @@ static uint64_t make_call(const struct call *call, enum side side)
     struct lent lent[PLACES];
     uint64_t result;
     unsigned i;
-    for (i = 0; i < PLACES; i++) {
-        lent[i] = lend(call->bytes[i], call->length[i], side);
-        if (call->bytes[i] == NULL)
-            memset(lent[i].at, FILL, call->length[i]);
-    }
-    result = dymosaw_request(lent[0].at, lent[0].length, lent[1].at, lent[1].length, lent[2].at, lent[2].length, lent[3].at,
-                             lent[3].length, lent[4].at, lent[4].length, lent[5].at, lent[5].length);
+    lend_all(call, lent, side);
+    result = call_with(lent);
     for (i = 0; i < PLACES; i++)
         if (call->bytes[i] != NULL && (i != TABLE || dymosaw_number(result) != 0))
             expect(memcmp(lent[i].at, call->bytes[i], call->length[i]) == 0, "bytes that are only read were changed");
@@ -216,8 +236,7 @@ static uint64_t make_call(const struct call *call, enum side side)
     memcpy(table_after, lent[TABLE].at, call->length[TABLE]);
     memcpy(answer_after, lent[ANSWERED].at, call->length[ANSWERED]);
     memcpy(cancel_after, lent[CANCELLED].at, call->length[CANCELLED]);
-    for (i = 0; i < PLACES; i++)
-        give_back(&lent[i]);
+    give_back_all(lent);
     return result;
 }
 
@@ -401,18 +420,14 @@ static void past_32_bits(void)
     unsigned i, j;
     for (i = 0; i < PLACES; i++) {
         struct lent lent[PLACES];
-        uint64_t result;
         for (j = 0; j < PLACES; j++) {
             const size_t cut = j == ANSWERED || j == CANCELLED ? 100 : call.length[j];
             lent[j] = lend(NULL, i == j ? more + cut : call.length[j], START);
             if (call.bytes[j] != NULL)
                 memcpy(lent[j].at, call.bytes[j], call.length[j]);
         }
-        result = dymosaw_request(lent[0].at, lent[0].length, lent[1].at, lent[1].length, lent[2].at, lent[2].length, lent[3].at,
-                                 lent[3].length, lent[4].at, lent[4].length, lent[5].at, lent[5].length);
-        expect(dymosaw_number(result) == number[i], "a length past 32 bits");
-        for (j = 0; j < PLACES; j++)
-            give_back(&lent[j]);
+        expect(dymosaw_number(call_with(lent)) == number[i], "a length past 32 bits");
+        give_back_all(lent);
     }
     huge = lend(NULL, make_frame(frame, IMSI_0, 7) + more, START);
     memcpy(huge.at, frame, sizeof frame);
@@ -456,6 +471,58 @@ static void odd_addresses(void)
         expect(memcmp(answer + by, first_answer, dymosaw_length(first)) == 0, "the same answer at another address");
         expect(memcmp(table + by, first_table, call.length[TABLE]) == 0, "the same table at another address");
     }
+}
+
+/* ---- a small stack: 16 KiB, its lowest byte at a forbidden page */
+
+static ucontext_t here, there;
+static struct lent lent_there[PLACES];
+static struct lent frame_there;
+static uint64_t result_there;
+static uint32_t number_there;
+
+static void both_calls(void)
+{
+    result_there = call_with(lent_there);
+    number_there = dymosaw_correct(lent_there[TABLE].at, lent_there[TABLE].length, frame_there.at, frame_there.length);
+}
+
+/* The request, then a correction, on a stack of their own: answered, and stored. */
+static void on_small_stack(const struct call *call)
+{
+    const struct lent stack = lend(NULL, 16384, START);
+    uint8_t frame[25];
+    make_frame(frame, IMSI_0, 7);
+    frame_there = lend(frame, sizeof frame, END);
+    lend_all(call, lent_there, END);
+    expect(getcontext(&there) == 0, "a context");
+    there.uc_stack.ss_sp = stack.at;
+    there.uc_stack.ss_size = stack.length;
+    there.uc_link = &here;
+    makecontext(&there, both_calls, 0);
+    expect(swapcontext(&here, &there) == 0, "another stack");
+    expect(dymosaw_number(result_there) == 0 && number_there == 0, "the calls on a small stack");
+    give_back_all(lent_there);
+    give_back(&frame_there);
+    give_back(&stack);
+}
+
+static void small_stack(void)
+{
+    struct call call = usual_call(240);
+    size_t at = call.length[REQUEST];
+    unsigned left;
+    on_small_stack(&call);
+    for (left = 9; left > 0; left--) { /* Subscription-Data in Subscription-Data, nine deep: each holds those behind it */
+        add_avp(request_bytes, at, 10415, 1400, "", 0);
+        put(request_bytes + at + 5, 12 * left, 3);
+        at += 12;
+    }
+    call.length[REQUEST] = at;
+    answered(&call, 5004, "a group inside eight others");
+    on_small_stack(&call);
+    request_of(&call, 4096);
+    on_small_stack(&call);
 }
 
 /* ---- the same call twice */
@@ -527,6 +594,7 @@ int main(void)
     past_32_bits();
     long_frames();
     odd_addresses();
+    small_stack();
     same_request_twice();
     same_correction_twice();
     printf("%lu checks\n", checks);

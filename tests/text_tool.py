@@ -2,13 +2,14 @@
 
 CASES and RESULTS are files of the case protocol: cases, and what the second program says of them. Every valid table, every correction that the numbers 11
 to 15 let pass and every message of 20 bytes or more is shown and made again: the bytes have to be the same. A table that the second program refuses
-with 4 breaks a rule for the tool too, and a valid one none; a refused correction breaks the rule of its number.
+with 4 breaks a rule for the tool too, and a valid one none; a correction gets the second program's number.
 """
 import os
 import random
 import struct
 import subprocess
 import sys
+import tempfile
 from collections import Counter
 
 ROOT = os.path.join(os.path.dirname(os.path.realpath(__file__)), "..")
@@ -79,11 +80,11 @@ def check_table(given, valid, chance, count):
     count["free fields"] += 1
 
 
-def check_frame(frame, number, count):
-    """Of numbers 16 and 17 the frame alone does not tell."""
-    fault = correction.first_fault(frame)
+def check_frame(lent, frame, number, count):
+    """The tool gives the frame the second program's number on this table; of the frame alone it tells 11 to 15."""
+    fault = correction.first_fault(frame, lent)
+    expect((fault[0] if fault else 0) == number, f"a frame that gets {number}: {fault}, {frame.hex()}")
     if 11 <= number <= 15:
-        expect(fault and fault[0] == number, f"a frame refused with {number}: {fault}, {frame.hex()}")
         expect(correction.show(frame)[1] is False, f"a frame refused with {number} is shown as right")
         count["frame refused"] += 1
     elif number != 4:
@@ -105,7 +106,7 @@ def there_and_back(paths):
         if op == 2 or number not in (3, 5):
             check_table(fields[0], number != 4, chance, count)
         if op == 2:
-            check_frame(fields[1], number, count)
+            check_frame(fields[0], fields[1], number, count)
         elif len(fields[1]) >= 20:
             again(message, fields[1], "a request")
             count["request"] += 1
@@ -188,6 +189,16 @@ def by_hand():
     imsis = [line for line in table.show(table.make(unordered))[0] if line.startswith("IMSI:")]
     expect(imsis == ["IMSI: 123456", "IMSI: 234567", "IMSI: 1234567"], f"records in another order: {imsis}")
     print(f"{len(pairs)} texts as worked by hand")
+
+
+def deep_groups():
+    """Groups are shown eight deep; what a ninth holds stays bytes, however deep it goes."""
+    data = b""
+    for _ in range(300):
+        data = bytes.fromhex("00000578 C0") + (12 + len(data)).to_bytes(3, "big") + bytes.fromhex("000028AF") + data
+    header = bytes.fromhex("01") + (20 + len(data)).to_bytes(3, "big") + bytes.fromhex("C000013C 01000023 00000000 00000000")
+    text = again(message, header + data, "a message of 300 groups in each other")
+    expect([line.strip() for line in text].count("Subscription-Data:") == 9, "not nine groups shown")
 
 
 # ---- bad text: what is given, and what is said of it
@@ -306,11 +317,20 @@ def command_line():
     expect(tool(["table", "make"], b"record\n\xff") == (1, b"", "dymosaw-text: -: line 2: the text is not UTF-8\n"), "text that is not UTF-8")
     expect(tool(["table", "show", "/no/such/file"], b"") == (2, b"", "dymosaw-text: /no/such/file: No such file or directory\n"), "no file")
     expect(tool(["table", "show", "--hex"], b"0g")[0] == 2 and tool(["tables", "show"], b"")[0] == 2, "usage")
+    frame = bytes.fromhex(FRAMES[0][1])
+    with tempfile.NamedTemporaryFile() as lent:
+        lent.write(VALID)
+        lent.flush()
+        status, told, _ = tool(["correction", "show", "--table", lent.name], frame)
+    said = b"breaks: number 17, byte 20: change number differs (the record has 0)\nkind: 1\n"
+    expect(status == 1 and told.startswith(said), "a table beside a correction")
+    expect(tool(["correction", "show"], frame)[0] == 0 and tool(["table", "show", "--table", "t"], b"")[0] == 2, "where a table may stand")
     print("command line as it should be")
 
 
 def main():
     by_hand()
+    deep_groups()
     bad_text()
     broken_bytes()
     command_line()

@@ -43,7 +43,11 @@ def arguments(words):
     parser.add_argument("file", nargs="?", default="-", metavar="FILE")
     parser.add_argument("--out", default="-", metavar="FILE", help="where to write")
     parser.add_argument("--hex", action="store_true", help="the bytes are read or written as hex digits")
-    return parser.parse_args(words)
+    parser.add_argument("--table", metavar="FILE", help="with correction show: say too whether this table would take the correction")
+    given = parser.parse_args(words)
+    if given.table and (given.kind, given.action) != ("correction", "show"):
+        parser.error("--table goes with correction show")
+    return given
 
 
 def read(path):
@@ -85,7 +89,8 @@ def decoded(content):
 def run(given):
     content = read(given.file)
     if given.action == "show":
-        text, right = KINDS[given.kind].show(unhexed(content) if given.hex else content)
+        shown = [unhexed(part) if given.hex else part for part in [content] + ([read(given.table)] if given.table else [])]
+        text, right = KINDS[given.kind].show(*shown)
         write(given.out, "".join(line + "\n" for line in text).encode("utf-8"))
         return DONE if right else REFUSED
     made = KINDS[given.kind].make(decoded(content))

@@ -1,4 +1,5 @@
 """A keypad correction: "whole length (2), version 1, kind, IMSI (16, as stored), change number seen (4), value"."""
+from text import table
 from text.lines import BadText, Reason, at_line, lines_of, once
 from text.record import FIELDS, IMSI
 from text.values import Number, from_hex, hex_of
@@ -23,8 +24,8 @@ def value_size(kind):
     return sum(end - start for key in KINDS[kind] for start, end in FIELDS[key].stretches)
 
 
-def first_fault(frame):
-    """The first of the numbers 11 to 15 that refuses the frame: number, byte and rule. 16 and 17 are a matter of the table."""
+def fault_of_frame(frame):
+    """The first of the numbers 11 to 15 that refuses the frame: number, byte of the frame and rule."""
     length = int.from_bytes(frame[0:2], "big")
     if len(frame) < HEAD:
         return 11, 0, f"under {HEAD} bytes ({len(frame)})"
@@ -42,14 +43,32 @@ def first_fault(frame):
     return None
 
 
+def fault_in(lent, frame):
+    """The number 16 or 17 that refuses the frame on the table lent."""
+    for record in table.records_of(lent):
+        if record[0:16] == frame[4:20]:
+            change = record[16:20]
+            return None if change == frame[20:24] else (17, 20, f"change number differs (the record has {CHANGE.show(change)})")
+    return 16, 4, "no such IMSI"
+
+
+def first_fault(frame, lent=None):
+    """The first number that refuses the frame; without a table lent, of 11 to 15."""
+    if lent is None:
+        return fault_of_frame(frame)
+    if not table.show(lent)[1]:
+        return 4, 0, "table not valid"
+    return fault_of_frame(frame) or fault_in(lent, frame)
+
+
 def show_imsi(stored):
     """A malformed IMSI is a matter of number 16, so it is shown too."""
     return hex_of(stored) if len(stored) < 16 or IMSI.faults(stored) else IMSI.show(stored)
 
 
-def show(frame):
-    """The text of a frame, and whether the numbers 11 to 15 let it pass."""
-    fault = first_fault(frame)
+def show(frame, lent=None):
+    """The text of a frame, and whether no number refuses it."""
+    fault = first_fault(frame, lent)
     text = [] if fault is None else [f"breaks: number {fault[0]}, byte {fault[1]}: {fault[2]}"]
     if len(frame) < HEAD:
         return text + [f"# the bytes: {hex_of(frame)}"], False
