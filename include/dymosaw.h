@@ -123,8 +123,9 @@ extern "C" {
  * Returns one number: dymosaw_number() of it is DYMOSAW_ANSWERED or the refusal's number, dymosaw_length() the answer's length
  * (0 where there is none).
  *
- * The same request once more is answered again, on the table as the first one left it: a node that registered is not listed
- * twice.
+ * The same request once more is answered again, on the table as the first one left it, and then lists no node. So the safe order
+ * is: tell the listed nodes, store the table for good, send the answer. Where this is cut short, the sender has no answer and sends
+ * its request again, and no listed node is forgotten.
  */
 uint64_t dymosaw_request(uint8_t *table, size_t table_len, const uint8_t *request, size_t request_len, const uint8_t *host,
                          size_t host_len, const uint8_t *realm, size_t realm_len, uint8_t *answer, size_t answer_len,

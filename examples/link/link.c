@@ -82,7 +82,7 @@ static void write_file(const char *path, const uint8_t *from, size_t length)
         stop(path, "cannot be written");
 }
 
-/* The table is written beside its file and then put in its place, so that a power cut leaves one of the two whole. */
+/* The table is written beside its file and then put in its place, so that a program that is stopped leaves a whole table. */
 static void replace_file(const char *path, const struct bytes *table)
 {
     const size_t room = strlen(path) + sizeof ".part";
@@ -166,13 +166,15 @@ static enum status answer_request(char **argument)
     if (dymosaw_number(result) != DYMOSAW_ANSWERED) {
         status = refused(dymosaw_number(result));
     } else {
+        /* First the list, then the table, then the answer. Where this is cut short, the node that asked gets no answer and asks
+         * again: on the table as it was the list comes once more, and on the changed one the nodes have been told. */
         const int changed = memcmp(table.at, before.at, table.length) != 0;
+        show_cancel(cancel);
         if (changed)
             replace_file(table_path, &table);
+        printf("table: %s\n", changed ? "changed and written" : "unchanged");
         write_file(argument[4], answer, dymosaw_length(result));
         printf("answered, %u bytes\n", (unsigned)dymosaw_length(result));
-        printf("table: %s\n", changed ? "changed and written" : "unchanged");
-        show_cancel(cancel);
     }
     free(table.at);
     free(before.at);
