@@ -286,6 +286,29 @@ static void corrected(const uint8_t *table, size_t table_len, const uint8_t *fra
 
 /* ---- what is tried */
 
+/* Every number of the header beside document 01's. */
+static void constants(void)
+{
+    static const uint32_t pairs[][2] = {
+        {DYMOSAW_TABLE_HEADER, 8}, {DYMOSAW_TABLE_VERSION, 1}, {DYMOSAW_RECORD, 256}, {DYMOSAW_MOST_RECORDS, 240},
+        {DYMOSAW_MOST_TABLE, 8 + 256 * 240}, {DYMOSAW_AT_IMSI, 0}, {DYMOSAW_AT_CHANGE, 16}, {DYMOSAW_AT_SUBSCRIPTION, 20},
+        {DYMOSAW_AT_RESTRICTION, 24}, {DYMOSAW_AT_PLMN_COUNT, 28}, {DYMOSAW_AT_PLMNS, 32}, {DYMOSAW_AT_PURGED, 56}, {DYMOSAW_AT_MME, 64},
+        {DYMOSAW_AT_SGSN, 129}, {DYMOSAW_AT_AMBR_UPLINK, 196}, {DYMOSAW_AT_AMBR_DOWNLINK, 200}, {DYMOSAW_AT_IMEI, 204}, {DYMOSAW_EPS, 1},
+        {DYMOSAW_GPRS, 2}, {DYMOSAW_PURGED_MME, 1}, {DYMOSAW_PURGED_SGSN, 2}, {DYMOSAW_MOST_NAME, 64}, {DYMOSAW_LEAST_REQUEST, 20},
+        {DYMOSAW_MOST_REQUEST, 4096}, {DYMOSAW_LEAST_ANSWER, 4352}, {DYMOSAW_MOST_ANSWER, 4292}, {DYMOSAW_LEAST_CANCEL, 136},
+        {DYMOSAW_ENTRY, 68}, {DYMOSAW_ENTRIES, 2}, {DYMOSAW_ENTRY_NODE, 0}, {DYMOSAW_ENTRY_TYPE, 1}, {DYMOSAW_ENTRY_NAME_LENGTH, 2},
+        {DYMOSAW_ENTRY_NAME, 4}, {DYMOSAW_NODE_MME, 1}, {DYMOSAW_NODE_SGSN, 2}, {DYMOSAW_MME_UPDATE, 0}, {DYMOSAW_SGSN_UPDATE, 1},
+        {DYMOSAW_INITIAL_ATTACH, 4}, {DYMOSAW_ANSWERED, 0}, {DYMOSAW_BUFFER_SHORT, 3}, {DYMOSAW_OWN_NAME, 5},
+        {DYMOSAW_TABLE_NOT_VALID, 4}, {DYMOSAW_REQUEST_SIZE, 1}, {DYMOSAW_NOT_A_REQUEST, 2}, {DYMOSAW_STORED, 0},
+        {DYMOSAW_FRAME_LENGTH, 11}, {DYMOSAW_FRAME_VERSION, 12}, {DYMOSAW_FRAME_KIND, 13}, {DYMOSAW_FRAME_LENGTH_FOR_KIND, 14},
+        {DYMOSAW_FRAME_VALUE, 15}, {DYMOSAW_NO_SUCH_IMSI, 16}, {DYMOSAW_CHANGE_DIFFERS, 17}, {DYMOSAW_KIND_SUBSCRIPTION, 1},
+        {DYMOSAW_KIND_RESTRICTION, 2}, {DYMOSAW_KIND_PLMNS, 3}, {DYMOSAW_KIND_AMBR, 4}, {DYMOSAW_FRAME_HEAD, 24}, {DYMOSAW_MOST_FRAME, 49},
+    };
+    size_t i;
+    for (i = 0; i < sizeof pairs / sizeof pairs[0]; i++)
+        expect(pairs[i][0] == pairs[i][1], "a number of the header");
+}
+
 static void zero_lengths(void)
 {
     static const uint32_t number[PLACES] = {4, 1, 5, 5, 3, 3};
@@ -586,6 +609,7 @@ static void same_correction_twice(void)
 
 int main(void)
 {
+    constants();
     zero_lengths();
     greatest_table();
     greatest_request();
