@@ -39,6 +39,9 @@ run_test widened-damaged "the test of widened requests refuses damaged pairs and
 run_test widened "20,000 widenings of accepted requests change nothing, by the C library" compare_widened widened 1 20000
 run_test widened-mandatory "5,000 widenings with a mandatory AVP are refused with 5001, by the C library" compare_widened widened-mandatory 1 5000
 run_test answers "every answer of 50,000 cases is read by the compiled message reader without a fault" answers_read 1 50000
+run_test reach "zero lengths, greatest sizes, odd addresses and the same call twice, from C" reach
+run_test package "the installed library, linked by examples/link with pkg-config's flags, runs the example's session" tests/package.sh
+run_test text-tool "tools/dymosaw-text: tables, corrections and messages of 1,500 cases there and back; bad text and broken bytes explained" text_tool 7 1500
 
 echo "$passed passed, $failed failed"
 [ "$failed" -eq 0 ]

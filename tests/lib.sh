@@ -106,3 +106,15 @@ told = sys.stdin.buffer.read()
 print(len(told) // 12, "answers read")
 sys.exit(len(told) < 12 * 1000 or any(told))'
 }
+
+# The C caller's reach, over the library as `make lib` leaves it.
+reach() {
+    make -s lib && "$x86_cc" -O2 -Wall -Wextra -Werror -static -Ibuild/lib tests/reach.c -Lbuild/lib -ldymosaw -o build/reach &&
+        "${x86_run[@]}" build/reach
+}
+
+# tools/dymosaw-text on generated cases: there and back, and its word against the second program's.
+text_tool() { # SEED COUNT
+    build/second gen "$1" "$2" >build/text.cases && build/second cases <build/text.cases >build/text.results || return 1
+    python3 tests/text_tool.py build/text.cases build/text.results
+}

@@ -20,8 +20,10 @@ need() {
 need make make
 need python3 python3
 need rustc rustc
+need pkg-config pkg-config
 if [ "$(uname -m)" = x86_64 ]; then
     need gcc gcc
+    need valgrind valgrind
 else
     need x86_64-linux-gnu-gcc gcc-x86-64-linux-gnu
     need qemu-x86_64 qemu-user
