@@ -20,6 +20,8 @@ run_test dictionary "docs/DICTIONARY.md and the crate's rows agree" python3 test
 run_test dictionary-damaged "the dictionary test refuses damaged copies" python3 tests/dictionary.py --self-test docs/DICTIONARY.md crates/dictionary
 run_test statements "every name that docs/STATEMENTS.md cites is there" python3 tests/statements.py
 run_test statements-damaged "the statements test refuses damaged copies" python3 tests/statements.py --self-test
+run_test promises "what docs/PROMISES.md quotes and names is there" python3 tests/promises.py
+run_test promises-damaged "the promises test refuses damaged copies" python3 tests/promises.py --self-test
 run_test second "the second program compiles without a warning" build_second
 run_test second-unit "the second program's unit tests" unit_tests_of_second
 run_test second-named "named cases, by the second program" named_cases build/second cases

@@ -19,12 +19,12 @@ use Rattle.paper.specs.Widened.{ifMandatory, Clear}
 use Rattle.paper.proofs.Newer as paper
 use Rattle.paper.proofs.Newer.{accepted-again}
 use Rattle.paper.proofs.NewerAccepted.{accepted-tested, accepted-least, accepted-passes}
-use Rattle.paper.proofs.NewerCover.{insert-widens, header-flips, flag-widens, padding-widens, word-widens}
+use Rattle.paper.proofs.NewerCover.{stripped-widens, insert-widens, header-flips, flag-widens, padding-widens, word-widens}
 use Rattle.paper.proofs.NewerRequest.{passes-clear}
 use Rattle.paper.proofs.NewerUnused.{unused-put-in, unused-taken-out}
 use Rattle.paper.proofs.TestLaws.{or-false-right}
 use Rattle.promises.specs.Calls.{Call}
-use Rattle.promises.specs.Promises.{NewerSame, NewerUnsupported, ChangesSame, AddedUnsupported}
+use Rattle.promises.specs.Promises.{NewerSame, NewerUnsupported, ChangesSame, AddedUnsupported, StrippedSame}
 use Rattle.promises.specs.Width.{Change, header-bit, unknown-added, avp-bit, padding, spare-bit, unused-added, unused-left-out, Changes, no-change, and-then}
 
 -- ---- two calls, the second with another request
@@ -94,3 +94,12 @@ added-unsupported c d y t h o u m i s e =
     let a = accepted c h in
     let w = rw m at (insert-widens (l .request) y t (accepted-least l a) s (clear l a) o u i) in
     second d e (paper.newer-unsupported l _ (avpOf y) a w)
+
+-- ---- without the unknown AVPs
+
+pub stripped-same : StrippedSame
+unfolding asking
+stripped-same c d b f v e h =
+    let m = d .lent .request in
+    let w = rw (v .unsupported) at (stripped-widens m b f (v .fault)) in
+    newer-same c d m h (subst (λ (l : Lent). WidenedRequest (l .request) m none) (sym e) w) (ap (λ (l : Lent). asking l m) (sym e))

@@ -1,4 +1,4 @@
--- One outcome for one input, of each public call that writes; demand 3 as the caller of `serve` sees it; and the promises are not empty.
+-- One outcome for one input, of each public call that writes; demand 3 as a caller from Rattle and one from C see it; and the promises are not empty.
 -- Assumes nothing.
 use mathlib.Core.Path.{_≡_, refl, sym, ap, _∙_}
 use mathlib.Core.Bool.{cond}
@@ -14,15 +14,16 @@ use Rattle.paper.specs.Attach.{tableAfter, attachAnswer, attachCancel, attachLe
 use Rattle.paper.specs.Correction.{Corrected, corrected}
 use Rattle.paper.specs.Outcome.{Outcome, outcome}
 use Rattle.paper.specs.Shown.{verdictOf}
-use Rattle.paper.proofs.ClosedAttach as paper
+use Rattle.paper.proofs.ClosedAttach as paper-attach
+use Rattle.paper.proofs.Newer as paper-newer
 use Rattle.correction.specs.Answer as Correcting
 use Rattle.correction.specs.declared.judge.Answer as Correct
 use Rattle.correction.specs.declared.judge.Answer.the-variants.{Stored, TableNotValid, LengthWrong, VersionWrong, KindUnknown, LengthWrongForKind, ValueNotValid, NoSuchImsi, ChangeDiffers}
 use Rattle.dymosaw.specs.declared.serve.Served.{Served}
 use Rattle.dymosaw.specs.declared.serve.Served.the-variants.{Refused, Answered}
 use Rattle.dymosaw.specs.Serve.{numberOf, sizeOf, saidBy, listedBy}
-use Rattle.promises.specs.Calls.{ServeCall, served}
-use Rattle.promises.specs.Promises.{SameServed, ServeNewerSame, ServeOnce, RequestOnce, CorrectOnce, EntryOnce, AttachSucceeds}
+use Rattle.promises.specs.Calls.{ServeCall, RequestCall, served, SameServed, SameRequested}
+use Rattle.promises.specs.Promises.{ServeNewerSame, RequestNewerSame, ServeOnce, RequestOnce, CorrectOnce, EntryOnce, AttachSucceeds}
 use Rattle.promises.proofs.Newer.{newer-same}
 
 -- ---- `serve`: its answer is read off the outcome
@@ -57,15 +58,20 @@ serve-once c d e = same-served c d (d .met ∙ ap outcome e ∙ sym (c .met))
 
 -- ---- `dymosaw_request`
 
-pub request-once : RequestOnce
-request-once c d e =
-    let o = ap outcome e in
+same-requested : (c d : RequestCall) → outcome (d .given) ≡ outcome (c .given) → SameRequested c d
+same-requested c d e =
     record {
-      result = d .met .result ∙ ap (λ (x : Outcome). x .number * 2 ^ 32 + x .size) o ∙ sym (c .met .result);
-      table = d .met .table ∙ ap (λ (x : Outcome). x .table) o ∙ sym (c .met .table);
-      answer = d .met .answer ∙ ap (λ (x : Outcome). x .answer) o ∙ sym (c .met .answer);
-      cancel = d .met .cancel ∙ ap (λ (x : Outcome). x .cancel) o ∙ sym (c .met .cancel);
+      result = d .met .result ∙ ap (λ (x : Outcome). x .number * 2 ^ 32 + x .size) e ∙ sym (c .met .result);
+      table = d .met .table ∙ ap (λ (x : Outcome). x .table) e ∙ sym (c .met .table);
+      answer = d .met .answer ∙ ap (λ (x : Outcome). x .answer) e ∙ sym (c .met .answer);
+      cancel = d .met .cancel ∙ ap (λ (x : Outcome). x .cancel) e ∙ sym (c .met .cancel);
     }
+
+pub request-newer-same : RequestNewerSame
+request-newer-same c d n h w e = same-requested c d (ap outcome e ∙ paper-newer.newer-same (c .given) n h w)
+
+pub request-once : RequestOnce
+request-once c d e = same-requested c d (ap outcome e)
 
 -- ---- corrections
 
@@ -115,7 +121,7 @@ attach-call =
       table = tableAfter;
       answer = attachAnswer ++ replicate 4152 255;
       cancel = attachCancel ++ replicate 4 255;
-      met = sym paper.attach-succeeds;
+      met = sym paper-attach.attach-succeeds;
     }
 
 pub attach-succeeds : AttachSucceeds

@@ -81,3 +81,25 @@ pub record SeenByC (c : RequestCall) (k : Call) : Type 0 where
   pub table : k .left .table ≡ c .table
   pub answer : k .left .answer ≡ c .answer
   pub cancel : k .left .cancel ≡ c .cancel
+
+-- ---- two calls that came to the same: in all that their caller sees
+
+pub record SameServed (c d : ServeCall) : Type 0 where
+  pub result : d .result ≡ c .result
+  pub table : d .table ≡ c .table
+  pub answer : d .answer ≡ c .answer
+  pub cancel : d .cancel ≡ c .cancel
+
+pub record SameRequested (c d : RequestCall) : Type 0 where
+  pub result : d .result ≡ c .result
+  pub table : d .table ≡ c .table
+  pub answer : d .answer ≡ c .answer
+  pub cancel : d .cancel ≡ c .cancel
+
+pub record SameCorrected (c d : CorrectCall) : Type 0 where
+  pub result : d .result ≡ c .result
+  pub after : d .after ≡ c .after
+
+pub record SameEntered (c d : EntryCall) : Type 0 where
+  pub result : d .result ≡ c .result
+  pub after : d .after ≡ c .after

@@ -6,29 +6,30 @@ use mathlib.Core.Bool.{true, false}
 use mathlib.Core.Option.{none, some}
 use mathlib.Core.List.{List, [], _∷_, _++_}
 use Prim.Native.Nat.{ℕ, _-_, _^_, _≤_, _<_}
-use lib.ListN.{drop, replicate, take}
+use lib.ListN.{take, drop, replicate}
+use Rattle.wire.specs.Number.{Bytes}
 use Rattle.dictionary.specs.declared.Kind.the-variants.{Unknown}
 use Rattle.dictionary.specs.Rows.{kindOf}
-use Rattle.paper.specs.declared.ResultCode.{ResultCode}
 use Rattle.paper.specs.declared.Verdict.the-variants.{Base}
 use Rattle.paper.specs.Attach.{tableAfter, attachAnswer, attachCancel, attachLent}
 use Rattle.paper.specs.Avp.{Avp, codeOf, vendorOf, flagsOf, avpOf, hasM}
 use Rattle.paper.specs.Clerks.{recordWith, standingOf, FirstThatHolds, Alters}
 use Rattle.paper.specs.Correction.{frameImsi, frameSeen}
 use Rattle.paper.specs.Layout.{messageHeader, mostEntries}
-use Rattle.paper.specs.Newer.{WidenedRequest, asking, Accepting, unsupportedOutcome, withAvps}
-use Rattle.paper.specs.Outcome.{Lent, Outcome}
+use Rattle.paper.specs.Newer.{WidenedRequest, asking, Accepting, Accepted, unsupportedOutcome, withAvps, Fits, strippedRequest}
 use Rattle.paper.specs.Procedures.{Entry, imsiField, isUlr, isPur, isNor, onS6a}
 use Rattle.paper.specs.Promises.{UpdatesOnS6a, UpdatesOnS6d, AnswersUlr, PurgesUe, Notifies}
 use Rattle.paper.specs.Read.{entriesIn}
-use Rattle.paper.specs.Refusals.{Said, result, said, refusals, First}
+use Rattle.paper.specs.Refusals.{Said, number, result, experimental, said, refusals, First}
+use Rattle.paper.specs.Request.{viewOf}
 use Rattle.paper.specs.Run as Run
-use Rattle.paper.specs.Run.{Asking, Step, asks, corrects, Came, asked, put-right, acceptedIn}
+use Rattle.paper.specs.Run.{Step, asks, corrects, Came, asked, put-right, acceptedIn}
 use Rattle.paper.specs.Table.{valid, changeOf}
-use Rattle.paper.specs.Widened.{OneAvp, Inserted}
+use Rattle.paper.specs.Untouched.{OnlyItsRecord, NoRecord, NoByte}
+use Rattle.paper.specs.Widened.{OneAvp, Inserted, Clear}
 use Rattle.dymosaw.specs.declared.serve.Served.the-variants.{Answered}
 use Rattle.dymosaw.specs.Serve.{saidBy}
-use Rattle.promises.specs.Calls.{ServeCall, RequestCall, CorrectCall, EntryCall, Call, Correction, SeenByC}
+use Rattle.promises.specs.Calls.{ServeCall, RequestCall, CorrectCall, EntryCall, Call, Correction, SeenByC, SameServed, SameRequested, SameCorrected, SameEntered}
 use Rattle.promises.specs.Width.{Changes, Short}
 
 -- ---- 1 to 3. A newer node
@@ -52,30 +53,18 @@ AddedUnsupported =
     (c d : Call) (y t : List ℕ) → Accepting (c .left .verdict) → OneAvp y → kindOf (vendorOf y) (codeOf y) ≡ Unknown → hasM (flagsOf y) ≡ true
     → Inserted kindOf y (drop messageHeader (c .lent .request)) t → Short t → d .lent ≡ asking (c .lent) (withAvps (c .lent .request) t) → d .left ≡ unsupportedOutcome (c .lent) (avpOf y)
 
--- what two calls of one function have in common if they come to the same: all that a caller sees
-pub record SameServed (c d : ServeCall) : Type 0 where
-  pub result : d .result ≡ c .result
-  pub table : d .table ≡ c .table
-  pub answer : d .answer ≡ c .answer
-  pub cancel : d .cancel ≡ c .cancel
+-- a request without faults whose unknown AVPs have no M comes to what it comes to without them
+abbrev pub StrippedSame : Type 0
+StrippedSame =
+    (c d : Call) → Bytes (d .lent .request) → Fits (d .lent .request) → Clear (viewOf (d .lent .request)) → c .lent ≡ asking (d .lent) (strippedRequest (d .lent .request))
+    → Accepting (c .left .verdict) → d .left ≡ c .left
 
-pub record SameRequested (c d : RequestCall) : Type 0 where
-  pub result : d .result ≡ c .result
-  pub table : d .table ≡ c .table
-  pub answer : d .answer ≡ c .answer
-  pub cancel : d .cancel ≡ c .cancel
-
-pub record SameCorrected (c d : CorrectCall) : Type 0 where
-  pub result : d .result ≡ c .result
-  pub after : d .after ≡ c .after
-
-pub record SameEntered (c d : EntryCall) : Type 0 where
-  pub result : d .result ≡ c .result
-  pub after : d .after ≡ c .after
-
--- Demand 3, first half, of `serve`: "Answer, table and cancel buffer are the same, byte by byte"
+-- the first half as a caller of `serve` and as one of `dymosaw_request` sees it: "Answer, table and cancel buffer are the same, byte by byte"
 abbrev pub ServeNewerSame : Type 0
 ServeNewerSame = (c d : ServeCall) (n : List ℕ) → Accepting (saidBy (c .result)) → WidenedRequest (c .given .request) n none → d .given ≡ asking (c .given) n → SameServed c d
+
+abbrev pub RequestNewerSame : Type 0
+RequestNewerSame = (c d : RequestCall) (n : List ℕ) → Accepted (c .given) → WidenedRequest (c .given .request) n none → d .given ≡ asking (c .given) n → SameRequested c d
 
 -- ---- 4. What an accepted request does
 
@@ -170,6 +159,24 @@ SameAsSeen =
     → (acceptedFor imsi cs ≡ 0) × (standingOf (recordWith imsi u) ≡ standingOf (recordWith imsi t))
 
 -- ---- 8. Nothing else is touched
+
+-- by any request, whatever it comes to
+abbrev pub OnlyItsRecordTouched : Type 0
+OnlyItsRecordTouched = (c : Call) → OnlyItsRecord (c .lent) (c .left)
+
+-- "no answer is longer than 4,292"
+abbrev pub AnswerShort : Type 0
+AnswerShort = (c : Call) → c .left .size ≤ 4292
+
+-- by a refusal with a Result-Code, with an Experimental-Result, and without an answer
+abbrev pub ResultTouchesNothing : Type 0
+ResultTouchesNothing = (c : Call) (code : ℕ) → code ≢ 2001 → said (c .left) ≡ result code → NoRecord (c .lent) (c .left)
+
+abbrev pub ExperimentalTouchesNothing : Type 0
+ExperimentalTouchesNothing = (c : Call) (code : ℕ) → said (c .left) ≡ experimental code → NoRecord (c .lent) (c .left)
+
+abbrev pub NumberTouchesNothing : Type 0
+NumberTouchesNothing = (c : Call) (n : ℕ) → said (c .left) ≡ number n → NoByte (c .lent) (c .left)
 
 -- a correction that is accepted alters the record that it names, at the change number seen, and nothing else
 abbrev pub CorrectionAlters : Type 0
