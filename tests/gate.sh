@@ -24,6 +24,8 @@ run_test numbers "the numbers of document 01 stand once, by name" python3 tests/
 run_test numbers-damaged "the numbers test refuses damaged copies" python3 tests/numbers_once.py --self-test
 run_test contracts "every public function has an ensures, and no public call a requires" python3 tests/contracts.py
 run_test contracts-damaged "the contracts test refuses damaged copies" python3 tests/contracts.py --self-test
+run_test promises "what docs/PROMISES.md quotes and names is there" python3 tests/promises.py
+run_test promises-damaged "the promises test refuses damaged copies" python3 tests/promises.py --self-test
 run_test second "the second program compiles without a warning" build_second
 run_test second-unit "the second program's unit tests" unit_tests_of_second
 run_test second-named "named cases, by the second program" named_cases build/second cases

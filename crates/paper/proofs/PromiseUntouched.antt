@@ -26,7 +26,7 @@ use Rattle.paper.proofs.CorrectionFields.{outside}
 use Rattle.paper.proofs.RecordLaws.{range, apart, apartFrom, DifferIn}
 use Rattle.paper.proofs.TableLaws.{lookup-some, replaced-lookup}
 use Rattle.paper.proofs.ProcedureLaws.{requestRanges, length-cancel}
-use Rattle.paper.proofs.OutcomeLaws.{Comes, silence, refused, ruled, done, outcome-comes, Left, Touched, nothing, own-record, outcome-touched, outcome-valid, outcome-standing}
+use Rattle.paper.proofs.OutcomeLaws.{Comes, silence, refused, ruled, done, outcome-comes, Touched, nothing, own-record, outcome-touched, outcome-valid, outcome-standing}
 use Rattle.paper.proofs.PromiseFields.{first-of-field}
 
 -- ---- the table
@@ -125,7 +125,7 @@ module _ (l : Lent) where
   zero-entries = before-behind (cancelBytes mostEntries []) (l .cancel)
 
 -- "a request alters at most the record of its IMSI"
-pub only-its-record : (l : Lent) → OnlyItsRecord l
+pub only-its-record : (l : Lent) → OnlyItsRecord l (outcome l)
 only-its-record l =
     let t = outcome-touched l in
     record {
@@ -141,20 +141,15 @@ only-its-record l =
 
 -- ---- refusals
 
--- the table as it came, and 136 zero bytes for the list
-pub record Unaltered (l : Lent) (o : Outcome) : Type 0 where
-  pub table : o .table ≡ l .table
-  pub cancel : take 136 (o .cancel) ≡ replicate 136 0
-
 module _ (l : Lent) where
-  by-result : (code : ℕ) → code ≢ 2001 → (o : Outcome) → Comes l o → said o ≡ result code → Unaltered l o
+  by-result : (code : ℕ) → code ≢ 2001 → (o : Outcome) → Comes l o → said o ≡ result code → NoRecord l o
   unfolding said saidBy silent answered successReply
   by-result code ne o (silence n) e = let z : _≡_ {A = ℕ} 0 1 = cc in absurd (omega arith)
   by-result code ne o (refused p x r) e = record { table = refl; cancel = zero-entries l }
   by-result code ne o (ruled p n c) e = record { table = refl; cancel = zero-entries l }
   by-result code ne o (done p n i f) e = let c : code ≡ 2001 = cc in absurd (ne c)
 
-  by-experimental : (code : ℕ) (o : Outcome) → Comes l o → said o ≡ experimental code → Unaltered l o
+  by-experimental : (code : ℕ) (o : Outcome) → Comes l o → said o ≡ experimental code → NoRecord l o
   unfolding said saidBy silent answered successReply
   by-experimental code o (silence n) e = let z : _≡_ {A = ℕ} 0 1 = cc in absurd (omega arith)
   by-experimental code o (refused p x r) e = record { table = refl; cancel = zero-entries l }
@@ -162,13 +157,13 @@ module _ (l : Lent) where
   by-experimental code o (done p n i f) e = let z : _≡_ {A = ℕ} 0 1 = cc in absurd (omega arith)
 
   -- a Result-Code other than 2001
-  pub result-alters-nothing : (code : ℕ) → code ≢ 2001 → said (outcome l) ≡ result code → NoRecord l
-  result-alters-nothing code ne e = let u = by-result code ne (outcome l) (outcome-comes l) e in record { table = u .table; cancel = u .cancel }
+  pub result-alters-nothing : (code : ℕ) → code ≢ 2001 → said (outcome l) ≡ result code → NoRecord l (outcome l)
+  result-alters-nothing code ne e = by-result code ne (outcome l) (outcome-comes l) e
 
-  pub experimental-alters-nothing : (code : ℕ) → said (outcome l) ≡ experimental code → NoRecord l
-  experimental-alters-nothing code e = let u = by-experimental code (outcome l) (outcome-comes l) e in record { table = u .table; cancel = u .cancel }
+  pub experimental-alters-nothing : (code : ℕ) → said (outcome l) ≡ experimental code → NoRecord l (outcome l)
+  experimental-alters-nothing code e = by-experimental code (outcome l) (outcome-comes l) e
 
-  by-number : (n : ℕ) (o : Outcome) → Comes l o → said o ≡ number n → Left l o
+  by-number : (n : ℕ) (o : Outcome) → Comes l o → said o ≡ number n → NoByte l o
   unfolding said saidBy silent answered refusalReply experimentalReply successReply
   by-number n o (silence k) e = record { size = refl; table = refl; answer = refl; cancel = refl }
   by-number n o (refused p x r) e = let z : _≡_ {A = ℕ} 0 1 = cc in absurd (omega arith)
@@ -176,7 +171,5 @@ module _ (l : Lent) where
   by-number n o (done p r i f) e = let z : _≡_ {A = ℕ} 0 1 = cc in absurd (omega arith)
 
   -- a refusal without an answer
-  pub number-alters-nothing : (n : ℕ) → said (outcome l) ≡ number n → NoByte l
-  number-alters-nothing n e =
-      let u = by-number n (outcome l) (outcome-comes l) e in
-      record { size = u .size; table = u .table; answer = u .answer; cancel = u .cancel }
+  pub number-alters-nothing : (n : ℕ) → said (outcome l) ≡ number n → NoByte l (outcome l)
+  number-alters-nothing n e = by-number n (outcome l) (outcome-comes l) e

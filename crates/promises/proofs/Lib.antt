@@ -1,0 +1,6 @@
+pub mod CallLaws
+pub mod Contracts
+pub mod Done
+pub mod Newer
+pub mod Once
+pub mod Runs
