@@ -1,5 +1,5 @@
 # The README's two commands and what stands beside them. Each does its own set-up: tests/setup.sh.
-.PHONY: run test interop count clean
+.PHONY: run test interop bench clean
 SHELL := /bin/bash
 
 # Proves what there is and runs it.
@@ -14,9 +14,9 @@ test:
 interop:
 	@tests/interop.sh
 
-# Instructions of the hot paths (docs/PERFORMANCE.md); outside the gate.
-count:
-	@tests/count.sh
+# Instructions a call, the library beside the same work in plain C (docs/PERFORMANCE.md); outside the gate.
+bench:
+	@bench/bench.sh
 
 clean:
 	rm -rf target build
