@@ -78,9 +78,9 @@ noting-start keys s n {at} e h =
     record {
       long = rw (length-replicate {A = ℕ} n (length s)) h;
       first = λ vendor code k m.
-      let i = index-member (keyOf vendor code) keys m in
-      ap (λ l. placeIn s (firstOf vendor code l)) (walk-start s e)
-      ∙ sym (chosen-open s _ (placeIn s (firstOf vendor code (avps (0 + at) (drop at s)))) (getD-replicate n (indexOf (keyOf vendor code) keys) (length s) 0 (omega arith)));
+          let i = index-member (keyOf vendor code) keys m in
+          ap (λ l. placeIn s (firstOf vendor code l)) (walk-start s e)
+          ∙ sym (chosen-open s _ (placeIn s (firstOf vendor code (avps (0 + at) (drop at s)))) (getD-replicate n (indexOf (keyOf vendor code) keys) (length s) 0 (omega arith)));
     }
 
 module _ (keys s places : List ℕ) (at : ℕ) (w : Noting keys s places at) where
@@ -89,8 +89,8 @@ module _ (keys s places : List ℕ) (at : ℕ) (w : Noting keys s places at) whe
       record {
         long = w .long;
         first = λ vendor code k m.
-        let p = getD places (indexOf (keyOf vendor code) keys) 0 in
-        sym (w .first vendor code k m ∙ ap (λ o. chosen s p (placeIn s o)) (f vendor code) ∙ chosen-last s p);
+            let p = getD places (indexOf (keyOf vendor code) keys) 0 in
+            sym (w .first vendor code k m ∙ ap (λ o. chosen s p (placeIn s o)) (f vendor code) ∙ chosen-last s p);
       }
 
   pub noting-end : End ≡ stepAt s at → Noted s keys places
@@ -123,8 +123,8 @@ module _ (keys s places : List ℕ) (at : ℕ) (w : Noting keys s places at) whe
           record {
             long = w .long;
             first = λ vendor code c m.
-            kept vendor code c m
-            (λ q. let l = index-member (keyOf vendor code) keys m in let j : indexOf (keyOf vendor code) keys ≡ i = ap (λ (x : ℕ). indexOf x keys) q ∙ sym index in absurd (omega arith));
+                kept vendor code c m
+                (λ q. let l = index-member (keyOf vendor code) keys m in let j : indexOf (keyOf vendor code) keys ≡ i = ap (λ (x : ℕ). indexOf x keys) q ∙ sym index in absurd (omega arith));
           }
 
       module _ (inside : i < length keys) (narrow : a .code < 4294967296) where

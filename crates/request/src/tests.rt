@@ -221,13 +221,7 @@ fn missing(keys: &[u64], kinds: &[u8], key: u64) -> Test
 }
 
 // The first of the required keys that no AVP has.
-fn first_absent(
-    keys: &[u64],
-    kinds: &[u8],
-    m: &[u8],
-    places: &[usize],
-    required: &[u64],
-) -> Test
+fn first_absent(keys: &[u64], kinds: &[u8], m: &[u8], places: &[usize], required: &[u64]) -> Test
     requires { ⌜ Dictionary (now keys) (now kinds) × (20 ≤ length (now m)) × Places (now m) (now places) ⌝ }
     ensures { λ r. ⌜ Answers (now (m .entry)) (firstAbsent (map keyAt (now (required .entry))) (avpsOf (now (m .entry)))) r ⌝ }
 {
@@ -244,13 +238,7 @@ fn first_absent(
 }
 
 // 5005: a required AVP absent; the first in the profile's order.
-pub fn absent_test(
-    keys: &[u64],
-    kinds: &[u8],
-    m: &[u8],
-    places: &[usize],
-    c: Command,
-) -> Test
+pub fn absent_test(keys: &[u64], kinds: &[u8], m: &[u8], places: &[usize], c: Command) -> Test
     requires { ⌜ Dictionary (now keys) (now kinds) × Ready (now m) c × Places (now m) (now places) ⌝ }
     ensures { λ r. ⌜ Answers (now (m .entry)) (absentTest (now (m .entry))) r ⌝ }
 {

@@ -82,9 +82,12 @@ loop-again c =
     let e = sym (k .avp .given .1) ∙ n .next .ensures in
     let w = n .before .loop .inv in
     let q = i .before .key-of .ensures in
-    let free = c .if2 .taken ∙ w .3 in
-    (noting-mark _ _ _ _ (w .0) e (i .index-of .ensures) (q .0) (c .before .if1 .taken) (q .1) free refl,
-    (λ o. once-mark _ _ _ _ (w .1 o) e (i .index-of .ensures) (q .0) (c .before .if1 .taken) (omega arith) free refl), simp length-set (w .2), w .3)
+    let free = c .if2 .taken ∙ w .3 in (
+      noting-mark _ _ _ _ (w .0) e (i .index-of .ensures) (q .0) (c .before .if1 .taken) (q .1) free refl,
+      (λ o. once-mark _ _ _ _ (w .1 o) e (i .index-of .ensures) (q .0) (c .before .if1 .taken) (omega arith) free refl),
+      simp length-set (w .2),
+      w .3,
+    )
 
 loop-less-2 : tie.Need-loop-less-2 Inv-loop μ-loop
 loop-less-2 c =
@@ -98,9 +101,12 @@ loop-again-2 c =
     let n = k .before .before in
     let e = sym (k .avp .given .1) ∙ n .next .ensures in
     let w = n .before .loop .inv in
-    let q = i .before .key-of .ensures in
-    (noting-again _ _ _ _ (w .0) e (i .index-of .ensures) (q .0) (c .before .if1 .taken) (q .1) (λ o. c .if2 .left (o ∙ sym (w .3))),
-    (λ o. absurd (false≢true (sym o))), w .2, w .3)
+    let q = i .before .key-of .ensures in (
+      noting-again _ _ _ _ (w .0) e (i .index-of .ensures) (q .0) (c .before .if1 .taken) (q .1) (λ o. c .if2 .left (o ∙ sym (w .3))),
+      (λ o. absurd (false≢true (sym o))),
+      w .2,
+      w .3,
+    )
 
 loop-less-3 : tie.Need-loop-less-3 Inv-loop μ-loop
 loop-less-3 c =
