@@ -1,5 +1,5 @@
 # The README's two commands and what stands beside them. run and test do their own set-up: tests/setup.sh.
-.PHONY: run test lib install interop count clean FORCE
+.PHONY: run test lib install interop bench clean FORCE
 SHELL := /bin/bash
 
 # The C library: where `make install` puts it (DESTDIR goes before PREFIX for packaging), and its version for pkg-config.
@@ -42,9 +42,9 @@ install: lib
 interop:
 	@tests/interop.sh
 
-# Instructions of the hot paths (docs/PERFORMANCE.md); outside the gate.
-count:
-	@tests/count.sh
+# Instructions a call, the library beside the same work in plain C (docs/PERFORMANCE.md); outside the gate.
+bench:
+	@bench/bench.sh
 
 clean:
 	rm -rf target build

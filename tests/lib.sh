@@ -82,10 +82,10 @@ reader_compare() { # SEED COUNT
     python3 tests/reader_compare.py "$out/messages" "$out/proved" "$out/second"
 }
 
-# Generated cases through the C library and through the second program, by pipes; the results have to be the same bytes, and some.
+# Generated cases through the C library (or the program $harness) and through the second program, by pipes; the results have to be the same bytes, and some.
 compare_cases() { # MAKER..
     local ours theirs
-    ours=$(set -o pipefail; "$@" | "${x86_run[@]}" build/harness | sha256sum) || return 1
+    ours=$(set -o pipefail; "$@" | "${x86_run[@]}" "${harness:-build/harness}" | sha256sum) || return 1
     theirs=$(set -o pipefail; "$@" | build/second cases | sha256sum) || return 1
     echo "the library: $ours; the second program: $theirs"
     [ "$ours" = "$theirs" ] && [ "$ours" != "$(sha256sum </dev/null)" ]

@@ -6,9 +6,9 @@ if ! command -v rt >/dev/null; then
     exit 2
 fi
 
-# Installs the Debian package $2 where the command $1 is not there.
+# Installs the Debian package $2 where the command or file $1 is not there.
 need() {
-    command -v "$1" >/dev/null && return
+    [ -e "$1" ] || command -v "$1" >/dev/null && return
     echo "setup: installing $2 for '$1'" >&2
     if [ -z "${apt_updated:-}" ]; then apt-get update -qq >&2 && apt_updated=1; fi
     DEBIAN_FRONTEND=noninteractive apt-get install -y -qq --no-install-recommends "$2" >/dev/null || {
@@ -26,6 +26,7 @@ if [ "$(uname -m)" = x86_64 ]; then
     need valgrind valgrind
 else
     need x86_64-linux-gnu-gcc gcc-x86-64-linux-gnu
+    need /usr/x86_64-linux-gnu/include/stdio.h libc6-dev-amd64-cross
     need qemu-x86_64 qemu-user
 fi
 

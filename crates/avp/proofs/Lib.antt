@@ -3,4 +3,5 @@ pub mod StepLaws
 pub mod MovedLaws
 pub mod FindLaws
 pub mod SecondLaws
+pub mod NotedLaws
 pub mod WriteLaws

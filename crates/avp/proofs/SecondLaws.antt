@@ -78,7 +78,7 @@ pub index-none : (k : ℕ) (keys : List ℕ) {i : ℕ} → i ≡ length keys →
 index-none k keys e f = e ∙ index-past k keys (λ j l. f j (omega arith))
 
 -- two keys have two indexes
-index-apart : (j k : ℕ) (keys : List ℕ) → member j keys ≡ true → member k keys ≡ true → (j ≡ k → ⊥) → indexOf j keys ≡ indexOf k keys → ⊥
+pub index-apart : (j k : ℕ) (keys : List ℕ) → member j keys ≡ true → member k keys ≡ true → (j ≡ k → ⊥) → indexOf j keys ≡ indexOf k keys → ⊥
 index-apart j k keys p q n e =
     n (sym (index-at j keys (index-member j keys p)) ∙ ap (λ (i : ℕ). getD keys i 0) e ∙ index-at k keys (index-member k keys q))
 

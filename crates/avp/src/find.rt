@@ -1,15 +1,17 @@
 // AVPs looked for at the top level of a stretch: the first of a key, the first that is a second of a key of a set, and their data as a part
 // of the caller's own slice. A stretch that breaks off is looked through as far as it can be read.
 ghost use mathlib.Core.Path.{_≡_};
-ghost use mathlib.Core.Bool.{_&&_};
+ghost use mathlib.Core.Bool.{false, _&&_};
 ghost use mathlib.Core.List.{[]};
-ghost use Prim.Native.Nat.{_≤_};
+ghost use mathlib.Core.Option.{none};
+ghost use Prim.Native.Nat.{_≤_, _<_};
 ghost use lib.Dec.{eqb};
 ghost use lib.ListN.{length};
 ghost use Rattle.dictionary.specs.Rows.{keyOf};
 ghost use Rattle.paper.specs.Reader.{avps};
 ghost use Rattle.paper.specs.Find.{firstOf, firstSecond, bodyFound, originHost};
-ghost use Rattle.avp.specs.Found.{indexOf, foundAt, Inside, dataOf};
+ghost use Rattle.avp.specs.Step.{stepAt};
+ghost use Rattle.avp.specs.Found.{indexOf, foundAt, foundBy, Noted, Inside, dataOf};
 use crate::cursor::Avp;
 use crate::cursor::Cursor;
 use crate::cursor::Step;
@@ -47,10 +49,11 @@ pub fn find(s: &[u8], vendor: u32, code: u32) -> Found
 }
 
 // Vendor and code as one number.
-fn key_of(a: Avp) -> u64
-    ensures { λ r. ⌜ r ≡ keyOf (a .vendor) (a .code) ⌝ }
+fn key_of(vendor: u32, code: u32) -> u64
+    ensures { λ r. ⌜ r ≡ keyOf vendor code ⌝ }
+    ensures { λ r. ⌜ code < 4294967296 ⌝ }
 {
-    (a.vendor as u64) * 4294967296 + (a.code as u64)
+    (vendor as u64) * 4294967296 + (code as u64)
 }
 
 // The index of the first key that is `key`; the number of keys where there is none.
@@ -79,7 +82,7 @@ pub fn first_second(s: &[u8], keys: &[u64]) -> Found
             Step::End => return Found::Nothing,
             Step::Bad { at: _ } => return Found::Nothing,
             Step::Item { avp, next } => {
-                let i = index_of(keys, key_of(avp));
+                let i = index_of(keys, key_of(avp.vendor, avp.code));
                 if i < keys.len() {
                     if met[i] {
                         return Found::At(avp);
@@ -90,6 +93,66 @@ pub fn first_second(s: &[u8], keys: &[u64]) -> Found
             }
         }
     }
+}
+
+// Where the first AVP of each of some keys stands, by the index of the key; the stretch's length where no AVP has it.
+pub struct Firsts {
+    // A key was met twice.
+    pub again: bool,
+    pub places: [usize; 16],
+}
+
+// The places of the first AVPs of the keys, by one walk.
+pub fn first_places(s: &[u8], keys: &[u64]) -> Firsts
+    requires { ⌜ length (now keys) ≤ 16 ⌝ }
+    ensures { λ r. ⌜ Noted (now (s .entry)) (now (keys .entry)) (r .places) ⌝ }
+    ensures { λ r. ⌜ (r .again ≡ false → firstSecond (now (keys .entry)) [] (avps 0 (now (s .entry))) ≡ none) ⌝ }
+{
+    let end = s.len();
+    let mut places = [end; 16];
+    let mut again = false;
+    let mut c = Cursor::new();
+    loop {
+        match c.next(s) {
+            Step::End => return Firsts { again, places },
+            Step::Bad { at: _ } => return Firsts { again, places },
+            Step::Item { avp, next } => {
+                let i = index_of(keys, key_of(avp.vendor, avp.code));
+                if i < keys.len() {
+                    if places[i] == end {
+                        places[i] = avp.at;
+                    } else {
+                        again = true;
+                    }
+                }
+                c = next;
+            }
+        }
+    }
+}
+
+// The AVP at a place, if one stands there.
+fn found_at(s: &[u8], at: usize) -> Found
+    ensures { λ r. ⌜ r ≡ foundBy (stepAt (now (s .entry)) at) ⌝ }
+{
+    let c = Cursor { at };
+    match c.next(s) {
+        Step::Item { avp, next: _ } => Found::At(avp),
+        Step::End => Found::Nothing,
+        Step::Bad { at: _ } => Found::Nothing,
+    }
+}
+
+// The first AVP of a key: by its place where the key is one of those that were noted, else by a walk.
+pub fn find_noted(s: &[u8], keys: &[u64], places: &[usize], vendor: u32, code: u32) -> Found
+    requires { ⌜ Noted (now s) (now keys) (now places) ⌝ }
+    ensures { λ r. ⌜ r ≡ foundAt (now (s .entry)) (firstOf vendor code (avps 0 (now (s .entry)))) ⌝ }
+{
+    let i = index_of(keys, key_of(vendor, code));
+    if i < keys.len() {
+        return found_at(s, places[i]);
+    }
+    find(s, vendor, code)
 }
 
 // The data of an AVP of `s`.

@@ -22,6 +22,7 @@ use procedures::verdict::verdict;
 use request::accept::Accepted;
 use request::accept::accept;
 use request::judge::judge;
+use request::noted::note;
 use request::place::bytes_in;
 use request::profile::Command;
 use request::profile::command_of;
@@ -52,6 +53,7 @@ ghost use Rattle.paper.specs.Table.{recordOf, lookup};
 ghost use Rattle.paper.specs.declared.Extra.the-variants as Extra;
 ghost use Rattle.procedures.specs.Values.{Held};
 ghost use Rattle.request.specs.Accepted.{Accepts};
+ghost use Rattle.request.specs.Held.{Places};
 ghost use Rattle.dymosaw.specs.Serve.{lent, cameTo, Is, silentNumber, entryAt, entriesIn, Ready};
 
 // What a request comes to: refused without an answer, by 01's number, or answered. `listed` counts the nodes to cancel.
@@ -264,15 +266,16 @@ fn serve_record(
 fn serve_accepted(
     table: &mut [u8],
     request: &[u8],
+    places: &[usize],
     host: &[u8],
     realm: &[u8],
     answer: &mut [u8],
     cancel: &mut [u8],
 ) -> Served
-    requires { ⌜ Ready (lent (now table) (now request) (now host) (now realm) (now answer) (now cancel)) ⌝ }
+    requires { ⌜ Ready (lent (now table) (now request) (now host) (now realm) (now answer) (now cancel)) × Places (now request) (now places) ⌝ }
     ensures { λ r. ⌜ cameTo r (now (table .exit)) (now (answer .exit)) (now (cancel .exit)) ≡ byRecord (lent (now (table .entry)) (now (request .entry)) (now (host .entry)) (now (realm .entry)) (now (answer .entry)) (now (cancel .entry))) (lookup (imsiField (now (request .entry))) (now (table .entry))) ⌝ }
 {
-    let accepted = accept(request);
+    let accepted = accept(request, places);
     let imsi = imsi_field(bytes_in(request, accepted.user_name));
     match find_record(table, &imsi) {
         Found::At(i) => serve_record(table, i, accepted, request, host, realm, answer, cancel),
@@ -291,7 +294,7 @@ fn serve_accepted(
 
 // ---- the call
 
-// A request that gets an answer. The dictionary's arrays are made here and lent down.
+// A request that gets an answer. The dictionary's arrays and the places of the used AVPs are made here and lent down.
 fn serve_request(
     table: &mut [u8],
     request: &[u8],
@@ -305,7 +308,9 @@ fn serve_request(
 {
     let keys = all_keys();
     let kinds = all_kinds();
-    match judge(&keys, &kinds, request) {
+    let noted = note(request);
+    let places = noted.places;
+    match judge(&keys, &kinds, request, &places, noted.again) {
         Test::Fails { code, failed, echo } => put_refusal(
             request,
             host,
@@ -316,7 +321,7 @@ fn serve_request(
             answer,
             cancel,
         ),
-        Test::Fine => serve_accepted(table, request, host, realm, answer, cancel),
+        Test::Fine => serve_accepted(table, request, &places, host, realm, answer, cancel),
     }
 }
 

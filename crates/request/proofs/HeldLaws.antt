@@ -86,9 +86,8 @@ module _ (m : List ℕ) (o : Option Placed) (t : Standing m o) {f : Sought} (e :
 pub found-framed : (m : List ℕ) (key : Key) {l : Avps} {s : Span} → Frames m l s → {f : Sought} → f ≡ soughtOf (find key (avpsIn m s)) → f ≡ soughtOf (find key l)
 found-framed m key a e = e ∙ ap (λ (x : Avps). soughtOf (find key x)) (a .same)
 
-pub there-framed : (m : List ℕ) (key : Key) {l : Avps} {s : Span} → Frames m l s → {f : Sought} → f ≡ soughtOf (find key (avpsIn m s)) → {b : Bool} → b ≡ isAt f
-    → isThere (find key l) ≡ b
-there-framed m key {l} a e q = sym (q ∙ ap isAt (found-framed m key a e) ∙ there-at (find key l))
+pub there-found : (o : Option Placed) {f : Sought} → f ≡ soughtOf o → {b : Bool} → b ≡ isAt f → isThere o ≡ b
+there-found o e q = sym (q ∙ ap isAt e ∙ there-at o)
 
 pub second-framed : (m : List ℕ) (keys : List ℕ) {l : Avps} {s : Span} → Frames m l s → {f : Sought} → f ≡ soughtOf (firstSecond keys [] (avpsIn m s))
     → f ≡ soughtOf (firstSecond keys [] l)

@@ -50,22 +50,9 @@ module _ (m : List ℕ) {c : Command} (r : Ready m c) {k : Keys} (l : Lists k (r
   used-numbers : take (k .used) (k .all) ≡ map keyNumber (used m)
   used-numbers = l .used ∙ ap (λ x. map keyNumber (usedIn x)) (r .own)
 
-  module _ {s : Span} (a : Frames m (avpsOf m) s) {f : Sought} (e : f ≡ soughtOf (firstSecond (take (k .used) (k .all)) [] (avpsIn m s)))
-      {i : Span} (b : Frames m (terminal m) i) {g : Sought} (d : g ≡ soughtOf (firstSecond (keyNumber imei ∷ []) [] (avpsIn m i))) where
-    repeated-standing : Standing m (repeated m)
-    unfolding repeated
-    repeated-standing =
-        earlier-standing m _ _ (second-standing m (avpsOf m) (all-in m (r .long)) (map keyNumber (used m)))
-        (second-standing m (terminal m) (terminal-all-in m (r .long)) (keyNumber imei ∷ []))
-
-    repeated-sought : earlierSought f g ≡ soughtOf (repeated m)
-    unfolding repeated
-    repeated-sought =
-        rw (second-framed m _ a e ∙ ap (λ (x : List ℕ). soughtOf (firstSecond x [] (avpsOf m))) used-numbers, second-framed m _ b d) (earlier-sought _ _)
-
-    pub repeated-answers : {x : Sought} → x ≡ earlierSought f g → {t : Test} → t ≡ shownTest 5009 x → Answers m (repeatedTest m) t
-    unfolding repeatedTest
-    repeated-answers p q = shown-answers m (repeated m) repeated-standing (p ∙ repeated-sought) 5009 q
+  pub second-of-used : {s : Span} → Frames m (avpsOf m) s → {f : Sought} → f ≡ soughtOf (firstSecond (take (k .used) (k .all)) [] (avpsIn m s))
+      → f ≡ soughtOf (firstSecond (map keyNumber (used m)) [] (avpsOf m))
+  second-of-used a e = second-framed m _ a e ∙ ap (λ (x : List ℕ). soughtOf (firstSecond x [] (avpsOf m))) used-numbers
 
   pub absent-answers : {t : Test} → Answers m (firstAbsent (map keyAt (take (k .required) (k .all))) (avpsOf m)) t → Answers m (absentTest m) t
   unfolding absentTest
@@ -73,6 +60,23 @@ module _ (m : List ℕ) {c : Command} (r : Ready m c) {k : Keys} (l : Lists k (r
       let e : map keyAt (take (k .required) (k .all)) ≡ requiredIn (commandOf (commandCode m)) =
       ap (map keyAt) (l .required) ∙ required-back c ∙ ap requiredIn (r .own) in
       rw e at a
+
+-- the second at the top and the one inside Terminal-Information
+module _ (m : List ℕ) {c : Command} (r : Ready m c) {f : Sought} (e : f ≡ soughtOf (firstSecond (map keyNumber (used m)) [] (avpsOf m)))
+    {i : Span} (b : Frames m (terminal m) i) {g : Sought} (d : g ≡ soughtOf (firstSecond (keyNumber imei ∷ []) [] (avpsIn m i))) where
+  repeated-standing : Standing m (repeated m)
+  unfolding repeated
+  repeated-standing =
+      earlier-standing m _ _ (second-standing m (avpsOf m) (all-in m (r .long)) (map keyNumber (used m)))
+      (second-standing m (terminal m) (terminal-all-in m (r .long)) (keyNumber imei ∷ []))
+
+  repeated-sought : earlierSought f g ≡ soughtOf (repeated m)
+  unfolding repeated
+  repeated-sought = rw (e, second-framed m _ b d) (earlier-sought _ _)
+
+  pub repeated-answers : {x : Sought} → x ≡ earlierSought f g → {t : Test} → t ≡ shownTest 5009 x → Answers m (repeatedTest m) t
+  unfolding repeatedTest
+  repeated-answers p q = shown-answers m (repeated m) repeated-standing (p ∙ repeated-sought) 5009 q
 
 -- the data of what was found is judged by a rule
 pub value-judged : (m : List ℕ) (o : Option Placed) → Standing m o → {f : Sought} → f ≡ soughtOf o → (right : List ℕ → Bool) → {x : List ℕ} → x ≡ bytesIn m (spanOf f)

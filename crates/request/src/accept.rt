@@ -5,12 +5,12 @@ ghost use lib.ListN.{length};
 ghost use Rattle.paper.specs.Layout.{messageHeader};
 ghost use Rattle.paper.specs.Request.{valueOf};
 ghost use Rattle.paper.specs.Asked.{askedOf};
+ghost use Rattle.request.specs.Held.{Places};
 ghost use Rattle.request.specs.Profile.{keyAt};
 ghost use Rattle.request.specs.Accepted.{SpanOf, Accepts};
-use crate::held::all_avps;
 use crate::held::find_imei;
+use crate::noted::find_top;
 use crate::place::Span;
-use crate::place::find_in;
 use crate::place::is_there;
 use crate::place::number_of;
 use crate::place::span_of;
@@ -31,16 +31,15 @@ pub struct Accepted {
     pub imei: Span,
 }
 
-fn asked_of(m: &[u8]) -> Asked
-    requires { ⌜ messageHeader ≤ length (now m) ⌝ }
+fn asked_of(m: &[u8], places: &[usize]) -> Asked
+    requires { ⌜ (messageHeader ≤ length (now m)) × Places (now m) (now places) ⌝ }
     ensures { λ r. ⌜ r ≡ askedOf (now (m .entry)) ⌝ }
 {
     let h = read_header(m);
     let command = h.command;
-    let list = all_avps(m);
-    let rat = find_in(m, list, RAT_TYPE);
-    let flags = find_in(m, list, flags_key(command));
-    let imei = find_imei(m, command_of(command));
+    let rat = find_top(m, places, RAT_TYPE);
+    let flags = find_top(m, places, flags_key(command));
+    let imei = find_imei(m, places, command_of(command));
     Asked {
         command,
         rat: number_of(m, rat),
@@ -51,25 +50,25 @@ fn asked_of(m: &[u8]) -> Asked
 }
 
 // Where the data of the first AVP of a key stands.
-fn value_of(m: &[u8], key: u64) -> Span
-    requires { ⌜ messageHeader ≤ length (now m) ⌝ }
+fn value_of(m: &[u8], places: &[usize], key: u64) -> Span
+    requires { ⌜ (messageHeader ≤ length (now m)) × Places (now m) (now places) ⌝ }
     ensures { λ r. ⌜ SpanOf (now (m .entry)) (valueOf (keyAt key) (now (m .entry))) r ⌝ }
 {
-    span_of(find_in(m, all_avps(m), key))
+    span_of(find_top(m, places, key))
 }
 
-// What the request `m` asks. Of a request that is refused the places are right as well, with no bytes where an AVP is absent.
-pub fn accept(m: &[u8]) -> Accepted
-    requires { ⌜ messageHeader ≤ length (now m) ⌝ }
+// What the request `m` asks, of which `places` were noted. Of a request that is refused the places are right as well, with no bytes where an AVP is absent.
+pub fn accept(m: &[u8], places: &[usize]) -> Accepted
+    requires { ⌜ (messageHeader ≤ length (now m)) × Places (now m) (now places) ⌝ }
     ensures { λ r. ⌜ Accepts (now (m .entry)) r ⌝ }
 {
     let h = read_header(m);
-    let imei = find_imei(m, command_of(h.command));
+    let imei = find_imei(m, places, command_of(h.command));
     Accepted {
-        asked: asked_of(m),
-        user_name: value_of(m, USER_NAME),
-        origin_host: value_of(m, ORIGIN_HOST),
-        visited_plmn: value_of(m, VISITED_PLMN_ID),
+        asked: asked_of(m, places),
+        user_name: value_of(m, places, USER_NAME),
+        origin_host: value_of(m, places, ORIGIN_HOST),
+        visited_plmn: value_of(m, places, VISITED_PLMN_ID),
         imei: span_of(imei),
     }
 }

@@ -1,11 +1,16 @@
 // "Result-Code, first that applies": the tests in the order of 01's table.
 ghost use mathlib.Core.Path.{_≡_};
+ghost use mathlib.Core.Bool.{false};
 ghost use mathlib.Core.List.{List, [], _∷_};
+ghost use mathlib.Core.Option.{none};
 ghost use Prim.Native.Nat.{ℕ, _≤_};
 ghost use lib.ListN.{length};
+ghost use Rattle.paper.specs.Find.{firstSecond};
+ghost use Rattle.paper.specs.Request.{first, versionTest, lengthTest, errorTest, avpsOf, refusal};
 ghost use Rattle.paper.specs.Layout.{messageHeader};
-ghost use Rattle.paper.specs.Request.{first, versionTest, lengthTest, errorTest, refusal};
 ghost use Rattle.reader.specs.Header.{headerOf};
+ghost use Rattle.request.specs.Held.{Places};
+ghost use Rattle.request.specs.Profile.{notedKeys};
 ghost use Rattle.request.specs.Test.{Answers, Dictionary};
 use crate::profile::command_of;
 use crate::tests::Test;
@@ -39,9 +44,9 @@ fn judge_header(h: Header, n: usize) -> Test
     error_test(h)
 }
 
-// The refusal of the request `m`, if one applies. The dictionary is lent as its two arrays.
-pub fn judge(keys: &[u64], kinds: &[u8], m: &[u8]) -> Test
-    requires { ⌜ Dictionary (now keys) (now kinds) × (messageHeader ≤ length (now m)) ⌝ }
+// The refusal of the request `m`, if one applies. The dictionary is lent as its two arrays; `places` and `again` are what was noted of the request.
+pub fn judge(keys: &[u64], kinds: &[u8], m: &[u8], places: &[usize], again: bool) -> Test
+    requires { ⌜ Dictionary (now keys) (now kinds) × (messageHeader ≤ length (now m)) × Places (now m) (now places) × (again ≡ false → firstSecond notedKeys [] (avpsOf (now m)) ≡ none) ⌝ }
     ensures { λ r. ⌜ Answers (now (m .entry)) (refusal (now (m .entry))) r ⌝ }
 {
     let h = read_header(m);
@@ -67,13 +72,13 @@ pub fn judge(keys: &[u64], kinds: &[u8], m: &[u8]) -> Test
     if fails(unsupported) {
         return unsupported;
     }
-    let repeated = repeated_test(m, c);
+    let repeated = repeated_test(m, places, again, c);
     if fails(repeated) {
         return repeated;
     }
-    let absent = absent_test(keys, kinds, m, c);
+    let absent = absent_test(keys, kinds, m, places, c);
     if fails(absent) {
         return absent;
     }
-    values_test(m, c)
+    values_test(m, places, c)
 }

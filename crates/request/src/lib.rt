@@ -3,6 +3,7 @@
 pub mod accept;
 pub mod held;
 pub mod judge;
+pub mod noted;
 pub mod place;
 pub mod profile;
 pub mod tests;

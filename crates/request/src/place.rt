@@ -34,7 +34,7 @@ pub enum Sought {
 }
 
 // An AVP of the list at `list`, by places of the message.
-fn spot_of(a: Avp, list: Span) -> Spot
+pub fn spot_of(a: Avp, list: Span) -> Spot
     requires { ⌜ (list .at + a .at < 2 ^ 64) × (list .at + a .end < 2 ^ 64) × (list .at + a .start < 2 ^ 64) ⌝ }
     ensures { λ r. ⌜ r ≡ record { at = list .at + a .at; end = list .end; from = list .at + a .start; to = list .at + a .end } ⌝ }
 {

@@ -5,7 +5,7 @@ ghost use Rattle.paper.specs.Find.{member};
 ghost use Rattle.paper.specs.Profile.{commandOf};
 ghost use Rattle.paper.specs.Request.{has, usedIn};
 ghost use Rattle.paper.specs.Asked.{flagsKey};
-ghost use Rattle.request.specs.Profile.{rowOf, keyAt, Lists};
+ghost use Rattle.request.specs.Profile.{rowOf, keyAt, Lists, notedKeys};
 use paper::profile;
 use paper::profile::NOR;
 use paper::profile::PUR;
@@ -118,6 +118,26 @@ pub fn keys_of(c: Command) -> Keys
             all,
         },
     }
+}
+
+// The keys that some command uses.
+pub fn noted_keys() -> [u64; 12]
+    ensures { λ r. ⌜ r ≡ notedKeys ⌝ }
+{
+    [
+        SESSION_ID,
+        AUTH_SESSION_STATE,
+        ORIGIN_HOST,
+        ORIGIN_REALM,
+        DESTINATION_REALM,
+        USER_NAME,
+        RAT_TYPE,
+        ULR_FLAGS,
+        VISITED_PLMN_ID,
+        TERMINAL_INFORMATION,
+        PUR_FLAGS,
+        NOR_FLAGS,
+    ]
 }
 
 // The flag word that a command has of its own.

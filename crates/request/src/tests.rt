@@ -1,28 +1,30 @@
 // The refusals with an answer, each a test by itself: fine, or a Result-Code, the AVP that Failed-AVP shows and whether the answer echoes.
 // The order of the tests is that of `judge`.
 ghost use mathlib.Core.Path.{_≡_};
-ghost use mathlib.Core.Bool.{cond};
-ghost use mathlib.Core.List.{List, map};
+ghost use mathlib.Core.Bool.{false, cond};
+ghost use mathlib.Core.List.{List, [], map};
 ghost use mathlib.Core.Option.{none, some};
 ghost use Prim.Native.Nat.{ℕ, _≤_};
 ghost use lib.ListN.{length};
 ghost use Rattle.paper.specs.Reader.{told};
+ghost use Rattle.paper.specs.Find.{firstSecond};
 ghost use Rattle.paper.specs.Profile.{commandOf};
+ghost use Rattle.paper.specs.Request.{commandCode, viewOf, avpsOf, keyNumber, used, versionTest, lengthTest, errorTest, faultTest, applicationTest, commandTest, unsupportedTest, repeatedTest, firstAbsent, missing, refuse, absentTest, valuesTest};
 ghost use Rattle.paper.specs.Layout.{messageHeader};
-ghost use Rattle.paper.specs.Request.{commandCode, viewOf, avpsOf, versionTest, lengthTest, errorTest, faultTest, applicationTest, commandTest, unsupportedTest, repeatedTest, firstAbsent, missing, refuse, absentTest, valuesTest};
 ghost use Rattle.reader.specs.Header.{headerOf};
 ghost use Rattle.request.specs.declared.tests.Test.the-variants.{Fine, Fails};
-ghost use Rattle.request.specs.Profile.{rowOf, keyAt};
+ghost use Rattle.request.specs.Profile.{rowOf, keyAt, notedKeys};
+ghost use Rattle.request.specs.Place.{soughtOf};
 ghost use Rattle.request.specs.Test.{failsOf, shownTest, Answers, isFour, Dictionary};
-ghost use Rattle.request.specs.Held.{Ready};
+ghost use Rattle.request.specs.Held.{Ready, Places};
 use crate::held::all_avps;
 use crate::held::find_imei;
 use crate::held::find_used;
 use crate::held::terminal_avps;
+use crate::noted::find_top;
 use crate::place::Sought;
 use crate::place::data_of;
 use crate::place::earlier;
-use crate::place::find_in;
 use crate::place::is_there;
 use crate::place::second_in;
 use crate::profile::Command;
@@ -170,17 +172,28 @@ fn shown(code: u32, f: Sought) -> Test
     }
 }
 
-// 5009: the second of an AVP that the command uses, at the top or as an IMEI of Terminal-Information; the one that stands first.
-pub fn repeated_test(m: &[u8], c: Command) -> Test
-    requires { ⌜ Ready (now m) c ⌝ }
-    ensures { λ r. ⌜ Answers (now (m .entry)) (repeatedTest (now (m .entry))) r ⌝ }
+// The first at the top level that is a second of an AVP that the command uses. `again` says that some command's AVP is there twice.
+fn second_used(m: &[u8], again: bool, c: Command) -> Sought
+    requires { ⌜ Ready (now m) c × (again ≡ false → firstSecond notedKeys [] (avpsOf (now m)) ≡ none) ⌝ }
+    ensures { λ r. ⌜ r ≡ soughtOf (firstSecond (map keyNumber (used (now (m .entry)))) [] (avpsOf (now (m .entry)))) ⌝ }
 {
+    if !again {
+        return Sought::Nothing;
+    }
     let keys = keys_of(c);
     let all = keys.all;
     let n = keys.used;
-    let f = second_in(m, all_avps(m), &all[..n]);
+    second_in(m, all_avps(m), &all[..n])
+}
+
+// 5009: the second of an AVP that the command uses, at the top or as an IMEI of Terminal-Information; the one that stands first.
+pub fn repeated_test(m: &[u8], places: &[usize], again: bool, c: Command) -> Test
+    requires { ⌜ Ready (now m) c × Places (now m) (now places) × (again ≡ false → firstSecond notedKeys [] (avpsOf (now m)) ≡ none) ⌝ }
+    ensures { λ r. ⌜ Answers (now (m .entry)) (repeatedTest (now (m .entry))) r ⌝ }
+{
+    let f = second_used(m, again, c);
     let imei = [IMEI];
-    let g = second_in(m, terminal_avps(m, c), &imei);
+    let g = second_in(m, terminal_avps(m, places, c), &imei);
     shown(5009, earlier(f, g))
 }
 
@@ -209,15 +222,14 @@ fn missing(keys: &[u64], kinds: &[u8], key: u64) -> Test
 }
 
 // The first of the required keys that no AVP has.
-fn first_absent(keys: &[u64], kinds: &[u8], m: &[u8], required: &[u64]) -> Test
-    requires { ⌜ Dictionary (now keys) (now kinds) × (messageHeader ≤ length (now m)) ⌝ }
+fn first_absent(keys: &[u64], kinds: &[u8], m: &[u8], places: &[usize], required: &[u64]) -> Test
+    requires { ⌜ Dictionary (now keys) (now kinds) × (messageHeader ≤ length (now m)) × Places (now m) (now places) ⌝ }
     ensures { λ r. ⌜ Answers (now (m .entry)) (firstAbsent (map keyAt (now (required .entry))) (avpsOf (now (m .entry)))) r ⌝ }
 {
-    let list = all_avps(m);
     let mut i = 0;
     while i < required.len() {
         let key = required[i];
-        if is_there(find_in(m, list, key)) {
+        if is_there(find_top(m, places, key)) {
             i += 1;
         } else {
             return missing(keys, kinds, key);
@@ -227,14 +239,14 @@ fn first_absent(keys: &[u64], kinds: &[u8], m: &[u8], required: &[u64]) -> Test
 }
 
 // 5005: a required AVP absent; the first in the profile's order.
-pub fn absent_test(keys: &[u64], kinds: &[u8], m: &[u8], c: Command) -> Test
-    requires { ⌜ Dictionary (now keys) (now kinds) × Ready (now m) c ⌝ }
+pub fn absent_test(keys: &[u64], kinds: &[u8], m: &[u8], places: &[usize], c: Command) -> Test
+    requires { ⌜ Dictionary (now keys) (now kinds) × Ready (now m) c × Places (now m) (now places) ⌝ }
     ensures { λ r. ⌜ Answers (now (m .entry)) (absentTest (now (m .entry))) r ⌝ }
 {
     let listed = keys_of(c);
     let all = listed.all;
     let n = listed.required;
-    first_absent(keys, kinds, m, &all[..n])
+    first_absent(keys, kinds, m, places, &all[..n])
 }
 
 // 5004 for what was found and is not right.
@@ -245,25 +257,25 @@ fn value_test(right: bool, f: Sought) -> Test
 }
 
 // 5004: User-Name, Origin-Host, Visited-PLMN-Id, IMEI, in this order.
-pub fn values_test(m: &[u8], c: Command) -> Test
-    requires { ⌜ Ready (now m) c ⌝ }
+pub fn values_test(m: &[u8], places: &[usize], c: Command) -> Test
+    requires { ⌜ Ready (now m) c × Places (now m) (now places) ⌝ }
     ensures { λ r. ⌜ Answers (now (m .entry)) (valuesTest (now (m .entry))) r ⌝ }
 {
-    let user_name = find_used(m, c, USER_NAME);
+    let user_name = find_used(m, places, c, USER_NAME);
     let a = value_test(is_imsi(data_of(m, user_name)), user_name);
     if fails(a) {
         return a;
     }
-    let origin_host = find_used(m, c, ORIGIN_HOST);
+    let origin_host = find_used(m, places, c, ORIGIN_HOST);
     let b = value_test(is_name(data_of(m, origin_host)), origin_host);
     if fails(b) {
         return b;
     }
-    let visited_plmn = find_used(m, c, VISITED_PLMN_ID);
+    let visited_plmn = find_used(m, places, c, VISITED_PLMN_ID);
     let d = value_test(is_plmn(data_of(m, visited_plmn)), visited_plmn);
     if fails(d) {
         return d;
     }
-    let imei = find_imei(m, c);
+    let imei = find_imei(m, places, c);
     value_test(is_imei(data_of(m, imei)), imei)
 }

@@ -61,7 +61,7 @@ returns-3 c =
     let n = k .before .before in
     let e = sym (k .avp .given .1) ∙ n .next .ensures in
     let i = c .before .before in
-    let s = second-here _ _ _ _ (n .before .loop .inv .0) e (i .index-of .ensures) (i .before .key-of .ensures) (c .before .if1 .taken) (c .if2 .taken) in
+    let s = second-here _ _ _ _ (n .before .loop .inv .0) e (i .index-of .ensures) (i .before .key-of .ensures .0) (c .before .if1 .taken) (c .if2 .taken) in
     sym (ap (foundAt _) s ∙ found-item _ _ e)
 
 array-write-met : tie.Need-array-write-met Inv-loop μ-loop
@@ -79,7 +79,7 @@ loop-again c =
     let e = sym (k .avp .given .1) ∙ n .next .ensures in
     let w = n .before .loop .inv in
     let i = c .before .before in
-    (second-mark _ _ _ _ (w .0) e (i .index-of .ensures) (i .before .key-of .ensures) (c .before .if1 .taken) (omega arith) (c .if2 .left), simp length-set (w .1))
+    (second-mark _ _ _ _ (w .0) e (i .index-of .ensures) (i .before .key-of .ensures .0) (c .before .if1 .taken) (omega arith) (c .if2 .left), simp length-set (w .1))
 
 loop-less-2 : tie.Need-loop-less-2 Inv-loop μ-loop
 loop-less-2 c =
@@ -92,7 +92,7 @@ loop-again-2 c =
     let n = k .before .before in
     let e = sym (k .avp .given .1) ∙ n .next .ensures in
     let w = n .before .loop .inv in
-    (second-other _ _ _ _ (w .0) e (c .before .index-of .ensures) (c .before .before .key-of .ensures) (c .if1 .left), w .1)
+    (second-other _ _ _ _ (w .0) e (c .before .index-of .ensures) (c .before .before .key-of .ensures .0) (c .if1 .left), w .1)
 
 pub first-second-spec : {M : Type 1} → statement M
 first-second-spec =

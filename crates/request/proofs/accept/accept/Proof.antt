@@ -13,7 +13,9 @@ command-of-requires : tie.Need-command-of-requires
 command-of-requires c κs = search needs
 
 find-imei-requires : tie.Need-find-imei-requires
-find-imei-requires c κs = record { long = c .before .before .before .pre; own = own-command _ (c .before .read-header .ensures) (c .command-of .ensures) }
+find-imei-requires c κs =
+    let p = c .before .before .before .before .pre in
+    (record { long = p .0; own = own-command _ (c .before .read-header .ensures) (c .command-of .ensures) }, p .1)
 
 asked-of-requires : tie.Need-asked-of-requires
 asked-of-requires c κs = search needs
@@ -33,13 +35,14 @@ span-of-requires c κs = search needs
 returns : tie.Need-returns
 returns c =
     let e = c .before .before .before .before .before in
-    let m = e .before .before .before .before .args .m .now in
+    let s = e .before .before .before .before .before in
+    let m = s .args .m .now in
     record {
       asked = c .before .before .before .before .asked-of .ensures;
       user = c .before .before .before .value-of .ensures;
       host = c .before .before .value-of2 .ensures;
       plmn = c .before .value-of3 .ensures;
-      imei = sought-span m (imeiOf m) (imei-standing m (e .before .before .before .before .pre)) (e .find-imei .ensures) (c .span-of .ensures);
+      imei = sought-span m (imeiOf m) (imei-standing m (s .pre .0)) (e .find-imei .ensures) (c .span-of .ensures);
     }
 
 pub accept-spec : {M : Type 1} → statement M

@@ -5,7 +5,7 @@ use Rattle.paper.specs.Request.{commandCode, avpsOf, find, valueOf, numberOf, i
 use Rattle.paper.specs.Asked.{flagsKey, askedOf}
 use Rattle.request.specs.Place.{soughtOf}
 use Rattle.request.specs.Profile.{keyAt}
-use Rattle.request.proofs.HeldLaws.{top-standing, imei-standing, found-framed, sought-inside, sought-number, sought-there}
+use Rattle.request.proofs.HeldLaws.{top-standing, imei-standing, sought-inside, sought-number, sought-there}
 use Rattle.request.proofs.JudgeLaws.{own-command, command-read}
 use borrow.Author.Needs.{needs}
 use Rattle.request.proofs.accept.asked_of.Statement.{statement}
@@ -14,30 +14,29 @@ use Rattle.request.proofs.accept.asked_of.Tie as tie
 read-header-requires : tie.Need-read-header-requires
 read-header-requires c κs = search needs
 
-all-avps-requires : tie.Need-all-avps-requires
-all-avps-requires c κs = search needs
-
-find-in-requires : tie.Need-find-in-requires
-find-in-requires c κs = search needs
+find-top-requires : tie.Need-find-top-requires
+find-top-requires c κs = search needs
 
 flags-key-requires : tie.Need-flags-key-requires
 flags-key-requires c κs = search needs
 
-find-in-requires-2 : tie.Need-find-in-requires-2
-find-in-requires-2 c κs = search needs
+find-top-requires-2 : tie.Need-find-top-requires-2
+find-top-requires-2 c κs = search needs
 
 command-of-requires : tie.Need-command-of-requires
 command-of-requires c κs = search needs
 
 find-imei-requires : tie.Need-find-imei-requires
-find-imei-requires c κs = record { long = c .before .before .before .before .before .before .before .pre; own = own-command _ (c .before .before .before .before .before .read-header .ensures) (c .command-of .ensures) }
+find-imei-requires c κs =
+    let h = c .before .before .before .before in
+    let p = h .before .before .before .pre in
+    (record { long = p .0; own = own-command _ (h .read-header .ensures) (c .command-of .ensures) }, p .1)
 
 number-of-requires : tie.Need-number-of-requires
 number-of-requires c κs =
     let s = c .before .before .before .before .before .before .before .before in
     let m = s .args .m .now in
-    let k = c .before .before .before .before in
-    sought-inside m (find ratType (avpsOf m)) (top-standing m (s .pre) ratType) (found-framed m ratType (k .before .all-avps .ensures) (k .find-in .ensures))
+    sought-inside m (find ratType (avpsOf m)) (top-standing m (s .pre .0) ratType) (c .before .before .before .before .find-top .ensures)
 
 number-of-requires-2 : tie.Need-number-of-requires-2
 number-of-requires-2 c κs =
@@ -45,7 +44,7 @@ number-of-requires-2 c κs =
     let m = s .args .m .now in
     let k = c .before .before .before in
     let key = keyAt (k .before .flags-key .result) in
-    sought-inside m (find key (avpsOf m)) (top-standing m (s .pre) key) (found-framed m key (k .before .before .before .all-avps .ensures) (k .find-in2 .ensures))
+    sought-inside m (find key (avpsOf m)) (top-standing m (s .pre .0) key) (k .find-top2 .ensures)
 
 is-there-requires : tie.Need-is-there-requires
 is-there-requires c κs = search needs
@@ -58,18 +57,16 @@ unfolding askedOf numberOf valueOf
 returns c =
     let s = c .before .before .before .before .before .before .before .before .before .before .before .before in
     let m = s .args .m .now in
-    let a = c .before .before .before .before .before .before .before .before .before in
-    let h = a .before .read-header .ensures in
-    let frames = a .all-avps .ensures in
+    let h = c .before .before .before .before .before .before .before .before .before .read-header .ensures in
     let key = flagsKey (commandCode m) in
     let own = c .before .before .before .before .before .before .before .flags-key .ensures ∙ ap flagsKey (command-read m h) in
-    let rat = found-framed m ratType frames (c .before .before .before .before .before .before .before .before .find-in .ensures) in
-    let flags = found-framed m _ frames (c .before .before .before .before .before .before .find-in2 .ensures) ∙ ap (λ (k : Key). soughtOf (find k (avpsOf m))) own in
+    let rat = c .before .before .before .before .before .before .before .before .find-top .ensures in
+    let flags = c .before .before .before .before .before .before .find-top2 .ensures ∙ ap (λ (k : Key). soughtOf (find k (avpsOf m))) own in
     let e₁ = command-read m h in
-    let e₂ = sought-number m (find ratType (avpsOf m)) (top-standing m (s .pre) ratType) rat (c .before .before .before .number-of .ensures) in
-    let e₃ = sought-number m (find key (avpsOf m)) (top-standing m (s .pre) key) flags (c .before .before .number-of2 .ensures) in
-    let e₄ = sought-there m (find key (avpsOf m)) (top-standing m (s .pre) key) flags (c .before .is-there .ensures) in
-    let e₅ = sought-there m (imeiOf m) (imei-standing m (s .pre)) (c .before .before .before .before .find-imei .ensures) (c .is-there2 .ensures) in
+    let e₂ = sought-number m (find ratType (avpsOf m)) (top-standing m (s .pre .0) ratType) rat (c .before .before .before .number-of .ensures) in
+    let e₃ = sought-number m (find key (avpsOf m)) (top-standing m (s .pre .0) key) flags (c .before .before .number-of2 .ensures) in
+    let e₄ = sought-there m (find key (avpsOf m)) (top-standing m (s .pre .0) key) flags (c .before .is-there .ensures) in
+    let e₅ = sought-there m (imeiOf m) (imei-standing m (s .pre .0)) (c .before .before .before .before .find-imei .ensures) (c .is-there2 .ensures) in
     λ i. record { command = e₁ i; rat = e₂ i; flags = e₃ i; «has_flags» = e₄ i; «has_imei» = e₅ i }
 
 pub asked-of-spec : {M : Type 1} → statement M
@@ -77,10 +74,9 @@ asked-of-spec =
     tie.close
     (tie.spec
     read-header-requires
-    all-avps-requires
-    find-in-requires
+    find-top-requires
     flags-key-requires
-    find-in-requires-2
+    find-top-requires-2
     command-of-requires
     find-imei-requires
     number-of-requires

@@ -11,7 +11,7 @@ span-of-requires : tie.Need-span-of-requires
 span-of-requires c κs = search needs
 
 returns : tie.Need-returns
-returns c = terminal-frames _ (c .before .before .before .pre .long) (c .before .find-used .ensures) (c .span-of .ensures)
+returns c = terminal-frames _ (c .before .before .before .before .pre .0 .long) (c .before .find-used .ensures) (c .span-of .ensures)
 
 pub terminal-avps-spec : {M : Type 1} → statement M
 terminal-avps-spec = tie.close (tie.spec find-used-requires span-of-requires returns)

@@ -1,14 +1,17 @@
 -- `request::judge::judge` meets its contract. Behind each test that is fine the chain is what the tests left of it say. Assumes nothing.
 use mathlib.Core.Path.{_≡_, refl, sym, _∙_}
+use mathlib.Core.Bool.{false}
 use mathlib.Core.Option.{none}
-use mathlib.Core.List.{List}
+use mathlib.Core.List.{List, []}
 use Prim.Native.Nat.{ℕ, _≤_}
 use lib.ListN.{length}
 use Rattle.paper.specs.Reader.{told}
-use Rattle.paper.specs.Request.{viewOf, faultTest, applicationTest, commandTest, unsupportedTest, refusal}
+use Rattle.paper.specs.Find.{firstSecond}
+use Rattle.paper.specs.Request.{avpsOf, viewOf, faultTest, applicationTest, commandTest, unsupportedTest, refusal}
 use Rattle.reader.specs.declared.header.Header.{Header}
 use Rattle.reader.specs.Header.{headerOf}
-use Rattle.request.specs.Held.{Ready}
+use Rattle.request.specs.Held.{Ready, Places}
+use Rattle.request.specs.Profile.{notedKeys}
 use Rattle.request.specs.Test.{Answers, Dictionary}
 use Rattle.request.proofs.TestLaws.{dictionary-lent}
 use Rattle.request.proofs.ChainLaws.{Left, fine-none, goes-on, stops, ends}
@@ -78,13 +81,19 @@ first7 c = first6 (c .before .before .before)
 
 -- the message, and what is known of it and of its header
 abbrev message : Passed1 → List ℕ
-message c = c .before .before .before .before .before .before .before .args .m .now
+message c = c .before .before .before .before .before .before .before .before .args .m .now
 
-dictionary : (c : Passed1) → Dictionary (c .before .before .before .before .before .before .before .args .keys .now) (c .before .before .before .before .before .before .before .args .kinds .now)
-dictionary c = c .before .before .before .before .before .before .before .pre .0
+dictionary : (c : Passed1) → Dictionary (c .before .before .before .before .before .before .before .before .args .keys .now) (c .before .before .before .before .before .before .before .before .args .kinds .now)
+dictionary c = c .before .before .before .before .before .before .before .before .pre .0
 
 long : (c : Passed1) → 20 ≤ length (message c)
-long c = c .before .before .before .before .before .before .before .pre .1
+long c = c .before .before .before .before .before .before .before .before .pre .1
+
+places : (c : Passed1) → Places (message c) (c .before .before .before .before .before .before .before .before .args .places .now)
+places c = c .before .before .before .before .before .before .before .before .pre .2
+
+once : (c : Passed1) → c .before .before .before .before .before .before .before .before .args .again ≡ false → firstSecond notedKeys [] (avpsOf (message c)) ≡ none
+once c = c .before .before .before .before .before .before .before .before .pre .3
 
 abbrev header : Passed1 → Header
 header c = c .before .before .before .read-header .result
@@ -199,7 +208,7 @@ returns-5 : tie.Need-returns-5
 returns-5 c = stops (left4 (c .before .before .before)) (unsupported-judged (c .before .before)) (sym (c .before .fails5 .ensures) ∙ c .if5 .taken)
 
 repeated-test-requires : tie.Need-repeated-test-requires
-repeated-test-requires c κs = ready (c .before .before .before .before .before .before)
+repeated-test-requires c κs = (ready (c .before .before .before .before .before .before), places (first5 c), once (first5 c))
 
 fails-requires-6 : tie.Need-fails-requires-6
 fails-requires-6 c κs = search needs
@@ -208,7 +217,7 @@ returns-6 : tie.Need-returns-6
 returns-6 c = stops (left5 (c .before .before .before)) (c .before .before .repeated-test .ensures) (sym (c .before .fails6 .ensures) ∙ c .if6 .taken)
 
 absent-test-requires : tie.Need-absent-test-requires
-absent-test-requires c κs = (dictionary (first6 c), ready (c .before .before .before .before .before .before .before .before .before))
+absent-test-requires c κs = (dictionary (first6 c), ready (c .before .before .before .before .before .before .before .before .before), places (first6 c))
 
 fails-requires-7 : tie.Need-fails-requires-7
 fails-requires-7 c κs = search needs
@@ -217,7 +226,7 @@ returns-7 : tie.Need-returns-7
 returns-7 c = stops (left6 (c .before .before .before)) (c .before .before .absent-test .ensures) (sym (c .before .fails7 .ensures) ∙ c .if7 .taken)
 
 values-test-requires : tie.Need-values-test-requires
-values-test-requires c κs = ready (c .before .before .before .before .before .before .before .before .before .before .before .before)
+values-test-requires c κs = (ready (c .before .before .before .before .before .before .before .before .before .before .before .before), places (first7 c))
 
 returns-8 : tie.Need-returns-8
 returns-8 c = ends (left7 (c .before)) (c .values-test .ensures)

@@ -17,7 +17,7 @@ first-absent-requires : tie.Need-first-absent-requires
 first-absent-requires c κs = search needs
 
 returns : tie.Need-returns
-returns c = let k = c .before .before .before in absent-answers _ (k .before .before .before .before .pre .1) (k .keys-of .ensures) (c .first-absent .ensures)
+returns c = let k = c .before .before .before in absent-answers _ (k .before .before .before .before .before .pre .1) (k .keys-of .ensures) (c .first-absent .ensures)
 
 pub absent-test-spec : {M : Type 1} → statement M
 absent-test-spec =

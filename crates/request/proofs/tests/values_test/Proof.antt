@@ -40,7 +40,7 @@ abbrev Passed3 : Type 0
 Passed3 = lts.Else3 calls reads.Pre reads.Post
 
 abbrev m1 : Passed1 → List ℕ
-m1 c = c .before .before .before .before .before .before .before .args .m .now
+m1 c = c .before .before .before .before .before .before .before .before .args .m .now
 
 abbrev m2 : Passed2 → List ℕ
 m2 c = m1 (c .before .before .before .before .before .before)
@@ -49,7 +49,7 @@ abbrev m3 : Passed3 → List ℕ
 m3 c = m2 (c .before .before .before .before .before .before)
 
 long1 : (c : Passed1) → 20 ≤ length (m1 c)
-long1 c = c .before .before .before .before .before .before .before .pre .long
+long1 c = c .before .before .before .before .before .before .before .before .pre .0 .long
 
 long2 : (c : Passed2) → 20 ≤ length (m2 c)
 long2 c = long1 (c .before .before .before .before .before .before)
@@ -57,10 +57,10 @@ long2 c = long1 (c .before .before .before .before .before .before)
 long3 : (c : Passed3) → 20 ≤ length (m3 c)
 long3 c = long2 (c .before .before .before .before .before .before)
 
-judged1 : (c : lts.After-value-test calls reads.Pre reads.Post) → Answers (c .before .before .before .before .before .args .m .now) (valueTest imsiDigits (ifUsed userName (c .before .before .before .before .before .args .m .now))) (c .value-test .result)
+judged1 : (c : lts.After-value-test calls reads.Pre reads.Post) → Answers (c .before .before .before .before .before .before .args .m .now) (valueTest imsiDigits (ifUsed userName (c .before .before .before .before .before .before .args .m .now))) (c .value-test .result)
 judged1 c =
-    let m = (c .before .before .before .before .before .args .m .now) in
-    value-judged m (ifUsed userName m) (used-standing m (c .before .before .before .before .before .pre .long) userName) (c .before .before .before .find-used .ensures) imsiDigits (c .before .before .data-of .ensures) (c .before .is-imsi .ensures) (c .value-test .ensures)
+    let m = (c .before .before .before .before .before .before .args .m .now) in
+    value-judged m (ifUsed userName m) (used-standing m (c .before .before .before .before .before .before .pre .0 .long) userName) (c .before .before .before .find-used .ensures) imsiDigits (c .before .before .data-of .ensures) (c .before .is-imsi .ensures) (c .value-test .ensures)
 
 judged2 : (c : lts.After-value-test2 calls reads.Pre reads.Post) → Answers (m1 (c .before .before .before .before)) (valueTest isName (ifUsed originHost (m1 (c .before .before .before .before)))) (c .value-test2 .result)
 judged2 c =
@@ -99,7 +99,7 @@ find-used-requires : tie.Need-find-used-requires
 find-used-requires c κs = search needs
 
 data-of-requires : tie.Need-data-of-requires
-data-of-requires c κs = let m = c .before .before .args .m .now in sought-inside m (ifUsed userName m) (used-standing m (c .before .before .pre .long) userName) (c .find-used .ensures)
+data-of-requires c κs = let s = c .before .before .before in let m = s .args .m .now in sought-inside m (ifUsed userName m) (used-standing m (s .pre .0 .long) userName) (c .find-used .ensures)
 
 is-imsi-requires : tie.Need-is-imsi-requires
 is-imsi-requires c κs = search needs
