@@ -51,6 +51,7 @@ pub mod PromiseTests
 pub mod PromiseUlr
 pub mod PromiseUntouched
 pub mod PromiseWorked
+pub mod ReadBackAvps
 mod ReadBackExamples
 pub mod ReaderExamples
 pub mod RecordLaws

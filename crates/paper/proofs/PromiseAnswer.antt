@@ -22,10 +22,11 @@ use Rattle.paper.specs.Find.{hasKey, firstOf, bodyFound}
 use Rattle.paper.specs.Profile.{Key, base, tgpp, sessionId, proxyInfo, subscriptionData, subscriberStatus, ambr, bandwidthUplink, bandwidthDownlink, ulaFlags, puaFlags}
 use Rattle.paper.specs.Request.{commandCode, avpsOf, find, valueOf, numberOf, isThere}
 use Rattle.paper.specs.Layout.{ambrAt}
-use Rattle.paper.specs.Procedures.{Done, restrictionOf, carriedOut, isUlr, isPur}
+use Rattle.paper.specs.Procedures.{Entry, Done, restrictionOf, carriedOut, isUlr, isPur}
 use Rattle.paper.specs.Answer.{item, numberItem, resultItem, echoed, eachOf, failedItem, restrictionItem, subscriptionOf, replyAvps, message, answer, Reply}
 use Rattle.paper.specs.Table.{recordOf}
-use Rattle.paper.specs.Outcome.{Lent, Outcome, answered, successItems, successReply}
+use Rattle.paper.specs.Outcome.{Lent, Outcome, answered, successItems, successReply, outcome}
+use Rattle.paper.specs.Passed.{Passed}
 use Rattle.paper.specs.Read.{answerOf}
 use Rattle.paper.specs.Promises.{Accepted, AnswersUlr}
 use Rattle.paper.proofs.AvpLaws.{padded-least}
@@ -33,19 +34,19 @@ use Rattle.paper.proofs.AvpsLaws.{avps-one, avps-empty}
 use Rattle.paper.proofs.WrittenLaws.{one-written-for, read-written}
 use Rattle.paper.proofs.AnswerParts.{length-item, length-answer}
 use Rattle.paper.proofs.OutcomeLaws.{outcome-size}
-use Rattle.paper.proofs.PromiseSuccess.{Success, success}
+use Rattle.paper.proofs.PromiseSuccess.{success}
 
 -- ---- one AVP in front of a stretch
 
 -- no answer is as long as this, so every AVP of an answer says its own length
-abbrev short : ℕ
+abbrev pub short : ℕ
 short = 5000
 
 module _ (k : Key) (x s : List ℕ) (v : k .vendor < 256 ^ 4) (c : k .code < 256 ^ 4) (h : length (item k x ++ s) ≤ short) (at : ℕ) where
-  abbrev itself : Avp
+  abbrev pub itself : Avp
   itself = record { code = k .code; flags = flagsFor (k .vendor) true; vendor = k .vendor; body = x }
 
-  abbrev stands : Placed
+  abbrev pub stands : Placed
   stands = record { at = at; end = at + length (item k x ++ s); avp = itself }
 
   fits : headSize (flagsFor (k .vendor) true) + length x < 256 ^ 3
@@ -55,7 +56,7 @@ module _ (k : Key) (x s : List ℕ) (v : k .vendor < 256 ^ 4) (c : k .code < 256
       let l = length-append (item k x) s in
       omega arith
 
-  item-front : avps at (item k x ++ s) ≡ more stands (avps (at + length (item k x)) s)
+  pub item-front : avps at (item k x ++ s) ≡ more stands (avps (at + length (item k x)) s)
   item-front =
       avps-one at s (one-written-for (k .vendor) (k .code) true x v c fits)
       ∙ ap (λ (a : Avp). more (record { at = at; end = at + length (item k x ++ s); avp = a }) (avps (at + length (item k x)) s)) (read-written (k .vendor) (k .code) true x v c fits)
@@ -89,7 +90,7 @@ pub record Apart (key k : Key) : Type 0 where
   pub code : k .code < 256 ^ 4
   pub differ : eqb (k .vendor) (key .vendor) && eqb (k .code) (key .code) ≡ false
 
-rest-short : (a s : List ℕ) → length (a ++ s) ≤ short → length s ≤ short
+pub rest-short : (a s : List ℕ) → length (a ++ s) ≤ short → length s ≤ short
 rest-short a s h = let l = length-append a s in omega arith
 
 lacking-nil : (key : Key) → Lacking key []
@@ -163,28 +164,29 @@ behind-header : (m host realm : List ℕ) (y : Reply) → 20 ≤ length m → dr
 unfolding answer message
 behind-header m host realm y h = drop-at (part 5 15 m) (replyAvps m host realm y) 15 (length-part 5 15 m (omega arith))
 
-module _ (l : Lent) (s : Success l) where
-  abbrev reply : Reply
-  reply = successReply (l .request) (recordOf (l .table) (s .place)) (carriedOut (l .request) (s .place) (l .table))
-
-  answer-is : answerOf l ≡ answer (l .request) (l .host) (l .realm) reply
+module _ (l : Lent) (t : List ℕ) (es : List Entry) (y : Reply) (comes : outcome l ≡ answered l t es y) where
+  pub answer-is : answerOf l ≡ answer (l .request) (l .host) (l .realm) y
   unfolding answered
   answer-is =
-      let a = answer (l .request) (l .host) (l .realm) reply in
-      ap (λ (o : Outcome). take (o .size) (o .answer)) (s .comes)
+      let a = answer (l .request) (l .host) (l .realm) y in
+      ap (λ (o : Outcome). take (o .size) (o .answer)) comes
       ∙ ap (λ (n : ℕ). take n (put 0 a (l .answer))) (sym (zero-add (length a)))
       ∙ take-put 0 a (l .answer) (omega arith)
 
-  pub answer-avps : avpsOf (answerOf l) ≡ avps 20 (replyAvps (l .request) (l .host) (l .realm) reply)
-  unfolding avpsOf
-  answer-avps = ap (λ (a : List ℕ). avps 20 (drop 20 a)) answer-is ∙ ap (avps 20) (behind-header (l .request) (l .host) (l .realm) reply (s .passed .least))
+  module _ (p : Passed l) where
+    pub behind-is : drop 20 (answerOf l) ≡ replyAvps (l .request) (l .host) (l .realm) y
+    behind-is = ap (drop 20) answer-is ∙ behind-header (l .request) (l .host) (l .realm) y (p .least)
 
-  pub answer-short : length (replyAvps (l .request) (l .host) (l .realm) reply) ≤ short
-  unfolding answered
-  answer-short =
-      let n = length-answer (l .request) (l .host) (l .realm) reply (s .passed .least) in
-      let k : length (answer (l .request) (l .host) (l .realm) reply) ≤ 4292 = subst (λ (o : Outcome). o .size ≤ 4292) (s .comes) (outcome-size l) in
-      omega arith
+    pub answer-avps : avpsOf (answerOf l) ≡ avps 20 (replyAvps (l .request) (l .host) (l .realm) y)
+    unfolding avpsOf
+    answer-avps = ap (avps 20) behind-is
+
+    pub answer-short : length (replyAvps (l .request) (l .host) (l .realm) y) ≤ short
+    unfolding answered
+    answer-short =
+        let n = length-answer (l .request) (l .host) (l .realm) y (p .least) in
+        let k : length (answer (l .request) (l .host) (l .realm) y) ≤ 4292 = subst (λ (o : Outcome). o .size ≤ 4292) comes (outcome-size l) in
+        omega arith
 
 pub there-found : {x : List ℕ} {o : Option Placed} → Found x o → isThere o ≡ true
 there-found f = ap isThere (f .found)
@@ -200,14 +202,23 @@ dataOf r =
     numberItem subscriberStatus 0 ++ (restrictionItem (restrictionOf r) ++ item ambr (numberItem bandwidthUplink (numAt 4 r ambrAt) ++ numberItem bandwidthDownlink (numAt 4 r (ambrAt + 4))))
 
 module _ (l : Lent) (a : Accepted l) where
+  abbrev reply : Reply
+  reply = successReply (l .request) (recordOf (l .table) (success l a .place)) (carriedOut (l .request) (success l a .place) (l .table))
+
+  of-answer : avpsOf (answerOf l) ≡ avps 20 (replyAvps (l .request) (l .host) (l .realm) reply)
+  of-answer = answer-avps l _ _ _ (success l a .comes) (success l a .passed)
+
+  its-length : length (replyAvps (l .request) (l .host) (l .realm) reply) ≤ short
+  its-length = answer-short l _ _ _ (success l a .comes) (success l a .passed)
+
   abbrev own-items : List ℕ
   own-items = successItems (l .request) (recordOf (l .table) (success l a .place)) (carriedOut (l .request) (success l a .place) (l .table))
 
   holds : (code : ℕ) (x : List ℕ) → Holding (tgpp code) x (own-items ++ eachOf proxyInfo (avpsOf (l .request))) → Found x (find (tgpp code) (avpsOf (answerOf l)))
-  holds code x h = rw (answer-avps l (success l a)) (holding-success code x (l .request) (l .host) (l .realm) _ _ h (answer-short l (success l a)) 20)
+  holds code x h = rw of-answer (holding-success code x (l .request) (l .host) (l .realm) _ _ h its-length 20)
 
   lacks : (code : ℕ) → Lacking (tgpp code) (own-items ++ eachOf proxyInfo (avpsOf (l .request))) → find (tgpp code) (avpsOf (answerOf l)) ≡ none
-  lacks code h = rw (answer-avps l (success l a)) (lacking-success code (l .request) (l .host) (l .realm) _ _ h (answer-short l (success l a)) 20)
+  lacks code h = rw of-answer (lacking-success code (l .request) (l .host) (l .realm) _ _ h its-length 20)
 
   -- "on success ULA-Flags 1, and Subscription-Data unless skipped"
   pub ulr-answered : isUlr (l .request) ≡ true → AnswersUlr (l .request) (answerOf l)

@@ -19,6 +19,7 @@ use Rattle.paper.specs.Profile.{Key, commandOf, userName, sessionId, ori
 use Rattle.paper.specs.Table.{Slot, mme, sgsn}
 use Rattle.paper.specs.Request.{versionOf, messageLength, isProxiable, commandCode, applicationOf, avpsOf, viewOf, find, isThere, numberOf, requiredIn, imeiOf, ifUsed, repeated, imsiDigits, isName, threeBytes, imeiDigits}
 use Rattle.paper.specs.Procedures.{sender, isUlr, isPur, skipSubscriberData, isSender}
+use Rattle.paper.specs.Widened.{shownOf}
 use Rattle.paper.specs.Shown.{stretch}
 use Rattle.paper.specs.ShownIn.{Standing}
 use Rattle.paper.specs.Outcome.{Lent, outcome}
@@ -127,11 +128,6 @@ unfoldable pub headOf : Option Faulty → Option Avp
 headOf none = none
 headOf (some f) = some (record { code = f .shown .avp .code; flags = f .shown .avp .flags; vendor = f .shown .avp .vendor; body = [] })
 
--- "Failed-AVP holds the AVP itself, its data as received"
-unfoldable pub itself : Option Placed → Option Avp
-itself none = none
-itself (some p) = some (p .avp)
-
 -- "for 5005 the dictionary's key, M, and four zero bytes for a 4-byte type, else no data"
 abbrev pub emptyOf : Kind → List ℕ
 emptyOf Four = replicate 4 0
@@ -154,13 +150,13 @@ firstWrong m =
     (cond (wrong threeBytes (ifUsed visitedPlmnId m)) (ifUsed visitedPlmnId m)
     (cond (wrong imeiDigits (imeiOf m)) (imeiOf m) none)))
 
--- "Failed-AVP for Result-Codes 5001, 5004, 5005, 5009, 5014": the AVP that it holds
+-- "Failed-AVP for Result-Codes 5001, 5004, 5005, 5009, 5014"; beside faults and absences it "holds the AVP itself, its data as received" (`shownOf`)
 unfoldable pub failedBy : List ℕ → Said → Option Avp
 failedBy m s =
-    cond (tells 5001 s) (itself (viewOf m .unsupported))
-    (cond (tells 5004 s) (orElse (headOf (viewOf m .fault)) (itself (firstWrong m)))
+    cond (tells 5001 s) (shownOf (viewOf m .unsupported))
+    (cond (tells 5004 s) (orElse (headOf (viewOf m .fault)) (shownOf (firstWrong m)))
     (cond (tells 5005 s) (firstLacking (requiredIn (commandOf (commandCode m))) (avpsOf m))
-    (cond (tells 5009 s) (itself (repeated m))
+    (cond (tells 5009 s) (shownOf (repeated m))
     (cond (tells 5014 s) (headOf (viewOf m .fault)) none))))
 
 unfoldable pub failedPart : Option Avp → Held
