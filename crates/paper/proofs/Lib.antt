@@ -53,6 +53,7 @@ pub mod PromiseUntouched
 pub mod PromiseWorked
 pub mod ReadBackAvps
 mod ReadBackExamples
+pub mod ReadBackHeader
 pub mod ReaderExamples
 pub mod RecordLaws
 mod RefusalExamples
