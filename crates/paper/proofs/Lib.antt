@@ -54,6 +54,7 @@ pub mod PromiseWorked
 pub mod ReadBackAvps
 mod ReadBackExamples
 pub mod ReadBackHeader
+pub mod ReadBackPlaces
 pub mod ReaderExamples
 pub mod RecordLaws
 mod RefusalExamples

@@ -42,11 +42,15 @@ bytes-then (grouped k inner h) g = rw (bytes-then h g, append-assoc)
 
 -- ---- what the dictionary says of them
 
--- a key of the dictionary, with vendor 0 or 10415
-pub record KeyIn (kind : Kind) (k : Key) : Type 0 where
+-- a key of the base protocol or of 3GPP
+pub record Own (k : Key) : Type 0 where
   pub vendor : k .vendor < 256 ^ 4
   pub code : k .code < 256 ^ 4
   pub flags : flagsFor (k .vendor) true ≡ octet k
+
+-- and what the dictionary says of it
+pub record KeyIn (kind : Kind) (k : Key) : Type 0 where
+  pub own : Own k
   pub known : kindOf (k .vendor) (k .code) ≡ kind
 
 -- the data has a size that the type of the key allows, and the AVP is not entered
@@ -92,13 +96,13 @@ pub record Reads (left at : ℕ) (s : List ℕ) (h : Held) : Type 0 where
 
 module _ (left : ℕ) (k : Key) (x s : List ℕ) {kind : Kind} (i : KeyIn kind k) (l : length (item k x ++ s) ≤ short) (at : ℕ) where
   abbrev here : Placed
-  here = stands k x s (i .vendor) (i .code) l at
+  here = stands k x s (i .own .vendor) (i .own .code) l at
 
   front : avps at (item k x ++ s) ≡ more here (avps (at + length (item k x)) s)
-  front = item-front k x s (i .vendor) (i .code) l at
+  front = item-front k x s (i .own .vendor) (i .own .code) l at
 
   of-key : here .avp ≡ ofKey k x
-  of-key = ap (λ (n : ℕ). record { code = k .code; flags = n; vendor = k .vendor; body = x }) (i .flags)
+  of-key = ap (λ (n : ℕ). record { code = k .code; flags = n; vendor = k .vendor; body = x }) (i .own .flags)
 
   -- the visit of the AVP, and of what follows
   visited : told (viewAvp kindOf seen left here) ≡ Clean → told (view kindOf seen left (at + length (item k x)) s) ≡ Clean → told (view kindOf seen left at (item k x ++ s)) ≡ Clean
