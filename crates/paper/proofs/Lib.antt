@@ -55,6 +55,7 @@ pub mod ReadBackAvps
 mod ReadBackExamples
 pub mod ReadBackHeader
 pub mod ReadBackPlaces
+pub mod ReadBackRefusals
 pub mod ReaderExamples
 pub mod RecordLaws
 mod RefusalExamples
