@@ -52,8 +52,10 @@ pub mod PromiseUlr
 pub mod PromiseUntouched
 pub mod PromiseWorked
 pub mod ReadBackAvps
+pub mod ReadBackCodes
 mod ReadBackExamples
 pub mod ReadBackHeader
+pub mod ReadBackParts
 pub mod ReadBackPlaces
 pub mod ReadBackRefusals
 pub mod ReaderExamples
