@@ -51,6 +51,7 @@ pub mod PromiseTests
 pub mod PromiseUlr
 pub mod PromiseUntouched
 pub mod PromiseWorked
+pub mod ReadBack
 pub mod ReadBackAvps
 pub mod ReadBackCodes
 mod ReadBackExamples
