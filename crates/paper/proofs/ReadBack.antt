@@ -1,7 +1,7 @@
 -- Promise: every answer, read by our message reader, has no fault and holds what 01 says, for each kind of outcome.
 -- Assumes nothing.
 use mathlib.Core.Path.{_≡_, refl, sym, ap, _∙_, subst}
-use mathlib.Core.Bool.{Bool, true, false, cond, not}
+use mathlib.Core.Bool.{Bool, true, false, cond, not, false≢true}
 use mathlib.Core.Option.{Option, none, some}
 use mathlib.Core.List.{List, [], _∷_}
 use Prim.Native.Nat.{ℕ, _^_, _≤_, _<_}
@@ -23,7 +23,7 @@ use Rattle.paper.specs.Passed.{Passed}
 use Rattle.paper.specs.Outcome.{Lent, Outcome, silent, answered, refusalReply, experimentalReply, successReply, outcome}
 use Rattle.paper.specs.Read.{before, answerOf, entriesIn, listedBy}
 use Rattle.paper.specs.Refusals.{Said, result, experimental, saidBy, said}
-use Rattle.paper.specs.ReadBack.{Held, no-more, ReadAs, tells, isFaulty, mute, successPart, failedBy, holds, HeaderRead, ReadBack, AnswersReadBack}
+use Rattle.paper.specs.ReadBack.{Held, no-more, ReadAs, tells, isFaulty, unechoed, successPart, failedBy, holds, HeaderRead, ReadBack, AnswersReadBack}
 use Rattle.paper.proofs.OptionLaws.{Holds}
 use Rattle.paper.proofs.TableLaws.{lookup-some}
 use Rattle.paper.proofs.EntryLaws.{EachOf, Listable}
@@ -43,7 +43,7 @@ use Rattle.paper.proofs.ReadBackHeader.{toldBy, header-read}
 use Rattle.paper.proofs.ReadBackPlaces.{failed-read, failed-writable}
 use Rattle.paper.proofs.ReadBackRefusals.{no-fault, refusal-told}
 use Rattle.paper.proofs.ReadBackParts.{Made, none-made, success-made, Promised, holds-made}
-use Rattle.paper.proofs.ReadBackCodes.{small, told-small, codes-read}
+use Rattle.paper.proofs.ReadBackCodes.{proper, told-proper, codes-read}
 
 -- ---- the entries of the cancel buffer
 
@@ -114,9 +114,9 @@ module _ (l : Lent) (b : Bytes (l .request)) (t : List ℕ) (es : List Entry) (y
         header = its-header;
         no-fault = visited;
         holding = held;
-        failed = failed-read (l .request) (k .passed .least);
+        failed = failed-read (l .request) (k .passed .least) (toldBy (y .verdict)) (rw (k .promised .failed) at (k .promised .there));
         size = its-size;
-        codes = codes-read (l .request) (l .host) (l .realm) (before l) (answerOf l) (toldBy (y .verdict)) (subst (λ (s : Said). small s ≡ true) its-said (told-small l)) held;
+        codes = codes-read (l .request) (l .host) (l .realm) (before l) (answerOf l) (toldBy (y .verdict)) (subst (λ (s : Said). proper s ≡ true) its-said (told-proper l)) held;
         listed = its-list;
       })
 
@@ -131,17 +131,17 @@ refusal-promised : (m r : List ℕ) (x : Refusal) → refusal m ≡ some x → P
 unfolding refusalReply saidBy
 refusal-promised m r x e =
     let t = refusal-told m e in
-    record { echo = t .echo; failed = t .failed; extra = rw (ne-eqb (x .code) 2001 (refusal-otherwise m x e)) none-made }
+    record { echo = t .echo; failed = t .failed; there = t .there; extra = rw (ne-eqb (x .code) 2001 (refusal-otherwise m x e)) none-made }
 
 -- an Experimental-Result
 experimental-promised : (m r : List ℕ) (code : ℕ) → refusal m ≡ none → Promised m r (experimentalReply code)
-unfolding experimentalReply saidBy mute failedBy
-experimental-promised m r code n = record { echo = sym (unrefused-echoes m n); failed = refl; extra = none-made }
+unfolding experimentalReply saidBy unechoed failedBy
+experimental-promised m r code n = record { echo = sym (unrefused-echoes m n); failed = refl; there = refl; extra = none-made }
 
 -- success
 success-promised : (m : List ℕ) (i : ℕ) (t : List ℕ) → refusal m ≡ none → Promised m (recordOf t i) (successReply m (recordOf t i) (carriedOut m i t))
-unfolding successReply saidBy mute failedBy
-success-promised m i t n = record { echo = sym (unrefused-echoes m n); failed = refl; extra = success-made m i t }
+unfolding successReply saidBy unechoed failedBy
+success-promised m i t n = record { echo = sym (unrefused-echoes m n); failed = refl; there = refl; extra = success-made m i t }
 
 by-comes : (l : Lent) → Bytes (l .request) → (o : Outcome) → Comes l o → outcome l ≡ o → (o .verdict ≡ none → ⊥) → ReadBack l (said (outcome l)) (answerOf l)
 unfolding silent
@@ -166,5 +166,10 @@ by-comes l b o (done p n i f) q a =
       few = carried-few m i t;
     })
 
+-- a call that comes to the number 0 has an answer
+has-answer : (l : Lent) → outcome l .number ≡ 0 → outcome l .verdict ≡ none → ⊥
+unfolding proper said saidBy
+has-answer l n e = let w = told-proper l in false≢true (rw (e, n) at w)
+
 pub answers-read-back : AnswersReadBack
-answers-read-back l b a = by-comes l b (outcome l) (outcome-comes l) refl a
+answers-read-back l b n = by-comes l b (outcome l) (outcome-comes l) refl (has-answer l n)

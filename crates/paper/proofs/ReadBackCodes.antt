@@ -20,7 +20,7 @@ use Rattle.paper.specs.Procedures.{isUlr, isPur, skipSubscriberData}
 use Rattle.paper.specs.Outcome.{Lent, outcome}
 use Rattle.paper.specs.Read.{codesIn}
 use Rattle.paper.specs.Refusals.{Said, number, result, experimental, said, Case, refusals, First, none-holds, first, later}
-use Rattle.paper.specs.ReadBack.{Held, no-more, plain, showing, grouped, ofKey, ReadAs, ends, reads, shows, enters, a-number, a-text, a-group, _and-then_, tells, resultPart, firstPart, eachPart, mute, subscriptionPart, successPart, failedBy, failedPart, holds, codesTold}
+use Rattle.paper.specs.ReadBack.{Held, no-more, plain, showing, grouped, ofKey, ReadAs, ends, reads, shows, enters, a-number, a-text, a-group, _and-then_, tells, resultPart, firstPart, eachPart, unechoed, subscriptionPart, successPart, failedBy, failedPart, holds, codesTold}
 use Rattle.paper.proofs.TestLaws.{or-false-left, or-false-right}
 use Rattle.paper.proofs.ViewLaws.{orElse-right}
 use Rattle.paper.proofs.PromiseRefusals.{first-that-applies}
@@ -164,43 +164,43 @@ module _ {k : Key} (c : Code k) where
   result-found : (m host realm r : List ℕ) (s : Said) → foundIn k (holds m host realm r s) ≡ foundIn k (resultPart s)
   unfolding holds isResult
   result-found m host realm r s =
-      let front : Lacks k (cond (mute m s) no-more (firstPart sessionId (find sessionId (avpsOf m)))) = lacks-if (mute m s) lacks-nothing (lacks-first _) in
+      let front : Lacks k (cond (unechoed m s) no-more (firstPart sessionId (find sessionId (avpsOf m)))) = lacks-if (unechoed m s) lacks-nothing (lacks-first _) in
       let back =
       lacks-then (lacks-text authSessionState (be 4 1) refl)
       (lacks-then (lacks-text originHost host refl)
       (lacks-then (lacks-text originRealm realm refl)
       (lacks-then (lacks-failed (failedBy m s))
-      (lacks-then (lacks-if (tells 2001 s) (lacks-success m r) lacks-nothing) (lacks-if (mute m s) lacks-nothing (lacks-each (avpsOf m))))))) in
+      (lacks-then (lacks-if (tells 2001 s) (lacks-success m r) lacks-nothing) (lacks-if (unechoed m s) lacks-nothing (lacks-each (avpsOf m))))))) in
       found-then k _ _ ∙ rw (front .none-found) (found-then k (resultPart s) _ ∙ rw (back .none-found) (orElse-right (foundIn k (resultPart s))))
 
 -- ---- the codes
 
--- a code is a number of 4 bytes
-unfoldable pub small : Said → Bool
-small (number n) = true
-small (result code) = ltb code 65536
-small (experimental code) = ltb code 65536
+-- the number of a refusal without an answer is not 0, and a code has 4 bytes
+unfoldable pub proper : Said → Bool
+proper (number n) = ltb 0 n
+proper (result code) = ltb code 65536
+proper (experimental code) = ltb code 65536
 
-allSmall : List Case → Bool
-allSmall [] = true
-allSmall (c ∷ cs) = small (c .says) && allSmall cs
+allProper : List Case → Bool
+allProper [] = true
+allProper (c ∷ cs) = proper (c .says) && allProper cs
 
-first-small : {l : Lent} {cs : List Case} {x : Said} → First l cs x → allSmall cs ≡ true → small x ≡ true
-unfolding allSmall small
-first-small none-holds e = refl
-first-small (first {c} {cs} h) e = and-true-left (small (c .says)) (allSmall cs) e
-first-small (later {c} {cs} h r) e = first-small r (and-true-right (small (c .says)) (allSmall cs) e)
+first-proper : {l : Lent} {cs : List Case} {x : Said} → First l cs x → allProper cs ≡ true → proper x ≡ true
+unfolding allProper proper
+first-proper none-holds e = refl
+first-proper (first {c} {cs} h) e = and-true-left (proper (c .says)) (allProper cs) e
+first-proper (later {c} {cs} h r) e = first-proper r (and-true-right (proper (c .says)) (allProper cs) e)
 
-pub told-small : (l : Lent) → small (said (outcome l)) ≡ true
-unfolding allSmall small refusals
-told-small l = first-small (first-that-applies l (said (outcome l)) .0 refl) refl
+pub told-proper : (l : Lent) → proper (said (outcome l)) ≡ true
+unfolding allProper proper refusals
+told-proper l = first-proper (first-that-applies l (said (outcome l)) .0 refl) refl
 
 four-bytes : (code : ℕ) → ltb code 65536 ≡ true → code < 256 ^ 4
 four-bytes code e = let h = ltb-true code 65536 e in omega arith
 
 module _ (m host realm r a : List ℕ) where
-  pub codes-read : (s : Said) → small s ≡ true → ReadAs (avpsOf a) (holds m host realm r s) → codesIn a ≡ codesTold s
-  unfolding codesIn codesTold numberOf valueOf small resultPart foundIn _and-then_
+  pub codes-read : (s : Said) → proper s ≡ true → ReadAs (avpsOf a) (holds m host realm r s) → codesIn a ≡ codesTold s
+  unfolding codesIn codesTold numberOf valueOf proper resultPart foundIn _and-then_
   codes-read s e t = go s e (rw (result-found a-result m host realm r s) at (read-find resultCode t)) (rw (result-found an-experimental m host realm r s) at (read-find experimentalResult t))
     where
       base : Option Placed
@@ -209,7 +209,7 @@ module _ (m host realm r a : List ℕ) where
       other : Option Placed
       other = find experimentalResult (avpsOf a)
 
-      go : (s : Said) → small s ≡ true → Agrees base (foundIn resultCode (resultPart s)) → Agrees other (foundIn experimentalResult (resultPart s))
+      go : (s : Said) → proper s ≡ true → Agrees base (foundIn resultCode (resultPart s)) → Agrees other (foundIn experimentalResult (resultPart s))
           → numAt 4 (bodyFound base) 0 ∷ numAt 4 (bodyFound (find experimentalResultCode (inside other))) 0 ∷ [] ≡ codesTold s
       go (number n) e p q = rw (none-read base p, none-inside experimentalResultCode other q)
       go (result code) e p q = rw (number-read resultCode code base (four-bytes code e) p, none-inside experimentalResultCode other q)

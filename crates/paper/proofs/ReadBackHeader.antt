@@ -60,7 +60,7 @@ module _ (m host realm : List ℕ) (y : Reply) (least : 20 ≤ length m) where
   header-read short fours =
       record {
         version = refl;
-        size = answer-length-field m host realm y least short;
+        own-length = answer-length-field m host realm y least short;
         fours = rw (length-answer m host realm y least) (fours-add 20 _ refl fours);
         flags = ap (λ (b : Bool). cond (isProxiable m) 64 0 + cond b 32 0) (error-told (y .verdict));
         command = number-copied 3 5 (omega arith) (omega arith);

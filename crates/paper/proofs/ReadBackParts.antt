@@ -25,11 +25,11 @@ use Rattle.paper.specs.Answer as Answer
 use Rattle.paper.specs.Answer.{item, numberItem, Verdict, resultItem, echoed, eachOf, failedItem, restrictionItem, subscriptionOf, subscriptionItem, Reply, replyAvps}
 use Rattle.paper.specs.Outcome.{successItems}
 use Rattle.paper.specs.Refusals.{saidBy}
-use Rattle.paper.specs.ReadBack.{Held, no-more, plain, showing, grouped, a-number, a-text, a-group, _and-then_, tells, resultPart, firstPart, eachPart, mute, subscriptionPart, setsBit, successPart, failedBy, failedPart, holds}
+use Rattle.paper.specs.ReadBack.{Held, no-more, plain, showing, grouped, a-number, a-text, a-group, _and-then_, tells, resultPart, firstPart, eachPart, unechoed, subscriptionPart, setsBit, successPart, failedBy, failedPart, isShown, holds}
 use Rattle.paper.proofs.AvpsLaws.{cond-cases}
 use Rattle.paper.proofs.OptionLaws.{Holds}
 use Rattle.paper.proofs.ReadBackAvps.{bytesOf, bytes-then, KeyIn, Fitting, Sound, sound-then}
-use Rattle.paper.proofs.ReadBackPlaces.{ownKey, own-key}
+use Rattle.paper.proofs.ReadBackPlaces.{withFailed, ownKey, own-key}
 use Rattle.paper.proofs.ReadBackHeader.{toldBy}
 
 -- the frozen list opened, for lookups that antt computes
@@ -154,8 +154,9 @@ success-made m i t = go (isUlr m) refl (isPur m) refl
 
 -- what the promise says of a reply
 pub record Promised (m r : List ℕ) (y : Reply) : Type 0 where
-  pub echo : y .echo ≡ not (mute m (toldBy (y .verdict)))
+  pub echo : y .echo ≡ not (unechoed m (toldBy (y .verdict)))
   pub failed : y .failed ≡ failedBy m (toldBy (y .verdict))
+  pub there : isShown (y .failed) ≡ withFailed (toldBy (y .verdict))
   pub extra : Made mostGroups (cond (tells 2001 (toldBy (y .verdict))) (successPart m r) no-more) (y .extra)
 
 pub holds-made : (m host realm r : List ℕ) (y : Reply) → Promised m r y → Holds Writable (failedBy m (toldBy (y .verdict)))
@@ -164,10 +165,10 @@ unfolding holds replyAvps ownKey dictionary
 holds-made m host realm r y p w =
     let s = toldBy (y .verdict) in
     rw (p .echo, p .failed)
-    (both (unless-made (mute m s) (session-made (find sessionId (avpsOf m))))
+    (both (unless-made (unechoed m s) (session-made (find sessionId (avpsOf m))))
     (both (result-made (y .verdict))
     (both (number-made authSessionState 1 refl refl)
     (both (text-made originHost host refl refl)
     (both (text-made originRealm realm refl refl)
     (both (failed-made (failedBy m s) w)
-    (both (p .extra) (unless-made (mute m s) (proxies-made (avpsOf m))))))))))
+    (both (p .extra) (unless-made (unechoed m s) (proxies-made (avpsOf m))))))))))

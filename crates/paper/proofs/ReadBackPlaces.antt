@@ -26,7 +26,7 @@ use Rattle.paper.specs.Request.{commandCode, avpsOf, viewOf, find, insid
 use Rattle.paper.specs.Refusals.{Said, wrong}
 use Rattle.paper.specs.Shown.{stretch}
 use Rattle.paper.specs.ShownIn.{StandsIn, Standing}
-use Rattle.paper.specs.ReadBack.{octet, ofKey, tells, headOf, emptyOf, firstLacking, firstWrong, failedBy, FailedRead}
+use Rattle.paper.specs.ReadBack.{octet, ofKey, tells, headOf, emptyOf, firstLacking, firstWrong, failedBy, isShown, FailedRead}
 use Rattle.paper.proofs.AvpLaws.{headSize-most}
 use Rattle.paper.proofs.AvpsLaws.{cond-cases, firstOf-each, firstSecond-each}
 use Rattle.paper.proofs.OptionLaws.{Holds, holds-orElse}
@@ -34,6 +34,10 @@ use Rattle.paper.proofs.StandsIn.{AllIn, stretch-rest, part-all-in, ins
 use Rattle.paper.proofs.ShownLaws.{Shows, view-shows}
 use Rattle.paper.proofs.WrittenLaws.{vendor-fits, vendor-without-V, read-writable, for-key-writable}
 use Rattle.paper.proofs.ReadBackAvps.{Own}
+
+-- "Failed-AVP for Result-Codes 5001, 5004, 5005, 5009, 5014"
+abbrev pub withFailed : Said → Bool
+withFailed s = tells 5001 s || (tells 5004 s || (tells 5005 s || (tells 5009 s || tells 5014 s)))
 
 -- ---- places
 
@@ -106,8 +110,8 @@ module _ (m : List ℕ) (least : 20 ≤ length m) where
   fault-head f e =
       ap headOf e ∙ ap (λ (a : Avp). some (record { code = a .code; flags = a .flags; vendor = a .vendor; body = [] })) (fault-shows f e)
 
-  pub failed-read : FailedRead m
-  failed-read = record { unknown = unknown-standing; second = repeated-standing; wrong-value = wrong-standing; fault = fault-head }
+  pub failed-read : (s : Said) → isShown (failedBy m s) ≡ withFailed s → FailedRead m s
+  failed-read s e = record { there = e; unknown = unknown-standing; second = repeated-standing; wrong-value = wrong-standing; fault = fault-head }
 
 -- ---- what is shown can be written
 

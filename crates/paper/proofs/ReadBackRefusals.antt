@@ -19,19 +19,20 @@ use Rattle.paper.specs.Widened.{shownOf}
 use Rattle.paper.specs.Profile.{Key, application, commandOf, userName, originHost, visitedPlmnId}
 use Rattle.paper.specs.Request.{Refusal, versionOf, messageLength, isError, applicationOf, commandCode, isCommand, avpsOf, viewOf, find, isThere, requiredIn, imeiOf, ifUsed, repeated, versionTest, lengthTest, errorTest, ofFault, faultTest, applicationTest, commandTest, ofFound, unsupportedTest, repeatedTest, blank, missing, firstAbsent, absentTest, valueTest, imsiDigits, isName, threeBytes, imeiDigits, first, valuesTest, refusal}
 use Rattle.paper.specs.Refusals.{result, wrong}
-use Rattle.paper.specs.ReadBack.{ofKey, octet, tells, isFaulty, mute, headOf, emptyOf, firstLacking, firstWrong, failedBy}
+use Rattle.paper.specs.ReadBack.{ofKey, octet, tells, isFaulty, unechoed, headOf, emptyOf, firstLacking, firstWrong, failedBy, isShown}
 use Rattle.paper.proofs.OptionLaws.{Holds, holds-of}
 use Rattle.paper.proofs.TestLaws.{or-right}
 use Rattle.paper.proofs.ShownSizes.{view-bare}
 use Rattle.paper.proofs.PassesLaws.{Passes, refusal-passes}
 use Rattle.paper.proofs.PromiseTests.{faultRight, message-right, refusal-otherwise}
 use Rattle.paper.proofs.ReadBackAvps.{Own}
-use Rattle.paper.proofs.ReadBackPlaces.{ownKey, own-key, ownKeys, required-own}
+use Rattle.paper.proofs.ReadBackPlaces.{withFailed, ownKey, own-key, ownKeys, required-own}
 
 -- a refusal with this code, what it shows and whether it echoes, as the promise has it
 pub record Told (m : List ℕ) (x : Refusal) : Type 0 where
-  pub echo : x .echo ≡ not (mute m (result (x .code)))
+  pub echo : x .echo ≡ not (unechoed m (result (x .code)))
   pub failed : x .failed ≡ failedBy m (result (x .code))
+  pub there : isShown (x .failed) ≡ withFailed (result (x .code))
 
 -- ---- the tests
 
@@ -51,16 +52,16 @@ when-is false e = let z : _≡_ {A = ℕ} 0 1 = cc in absurd (omega arith)
 
 module _ (m : List ℕ) where
   version-told : {x : Refusal} → versionTest m ≡ some x → Told m x
-  unfolding versionTest mute failedBy
-  version-told e = subst (Told m) (unless-is (eqb (versionOf m) 1) e) (record { echo = refl; failed = refl })
+  unfolding versionTest unechoed failedBy
+  version-told e = subst (Told m) (unless-is (eqb (versionOf m) 1) e) (record { echo = refl; failed = refl; there = refl })
 
   length-told : {x : Refusal} → lengthTest m ≡ some x → Told m x
-  unfolding lengthTest mute failedBy
-  length-told e = subst (Told m) (unless-is (eqb (messageLength m) (length m) && eqb (length m % 4) 0) e) (record { echo = refl; failed = refl })
+  unfolding lengthTest unechoed failedBy
+  length-told e = subst (Told m) (unless-is (eqb (messageLength m) (length m) && eqb (length m % 4) 0) e) (record { echo = refl; failed = refl; there = refl })
 
   error-told : {x : Refusal} → errorTest m ≡ some x → Told m x
-  unfolding errorTest mute failedBy
-  error-told e = subst (Told m) (when-is (isError m) e) (record { echo = refl; failed = refl })
+  unfolding errorTest unechoed failedBy
+  error-told e = subst (Told m) (when-is (isError m) e) (record { echo = refl; failed = refl; there = refl })
 
   -- ---- a fault of the visit
 
@@ -71,9 +72,9 @@ module _ (m : List ℕ) where
       let b : f .shown .avp .body ≡ [] = holds-of (λ (g : Faulty). g .shown .avp .body ≡ []) e (view-bare kindOf (λ vendor code x. x) 8 20 (drop 20 m)) in
       ap headOf e ∙ ap (λ (x : List ℕ). some (record { code = f .shown .avp .code; flags = f .shown .avp .flags; vendor = f .shown .avp .vendor; body = x })) (sym b)
 
-  fault-mute : (f : Faulty) → viewOf m .fault ≡ some f → (code : ℕ) → mute m (result code) ≡ true
-  unfolding mute isFaulty
-  fault-mute f e code =
+  fault-unechoed : (f : Faulty) → viewOf m .fault ≡ some f → (code : ℕ) → unechoed m (result code) ≡ true
+  unfolding unechoed isFaulty
+  fault-unechoed f e code =
       or-right (tells 5011 (result code)) _ (or-right (tells 5015 (result code)) _ (or-right (tells 3008 (result code)) _ (ap isFaulty e)))
 
   shown-5014 : (f : Faulty) → viewOf m .fault ≡ some f → some (f .shown .avp) ≡ failedBy m (result 5014)
@@ -91,12 +92,12 @@ module _ (m : List ℕ) where
   unfolding faultRight
   fault-found f e = go (eqb (f .code) 5014) refl (eqb (f .code) 5004) refl (ap faultRight (sym e) ∙ message-right m)
     where
-      at-code : (code : ℕ) → f .code ≡ code → some (f .shown .avp) ≡ failedBy m (result code) → Told m (of-fault (f .code) f)
-      at-code code q h = rw q (record { echo = sym (ap not (fault-mute f e code)); failed = h })
+      at-code : (code : ℕ) → f .code ≡ code → some (f .shown .avp) ≡ failedBy m (result code) → withFailed (result code) ≡ true → Told m (of-fault (f .code) f)
+      at-code code q h t = rw q (record { echo = sym (ap not (fault-unechoed f e code)); failed = h; there = sym t })
 
       go : (a : Bool) → eqb (f .code) 5014 ≡ a → (b : Bool) → eqb (f .code) 5004 ≡ b → a || b ≡ true → Told m (of-fault (f .code) f)
-      go true p b q h = at-code 5014 (eqb-true (f .code) 5014 p) (shown-5014 f e)
-      go false p true q h = at-code 5004 (eqb-true (f .code) 5004 q) (shown-5004 f e)
+      go true p b q h = at-code 5014 (eqb-true (f .code) 5014 p) (shown-5014 f e) refl
+      go false p true q h = at-code 5004 (eqb-true (f .code) 5004 q) (shown-5004 f e) refl
       go false p false q h = let z : _≡_ {A = ℕ} 0 1 = cc in absurd (omega arith)
 
   fault-told : {x : Refusal} → faultTest m ≡ some x → Told m x
@@ -118,12 +119,12 @@ module _ (m : List ℕ) where
   -- ---- the tests behind the visit
 
   -- an AVP that was found, and is shown itself
-  found-told : (code : ℕ) (o : Option Placed) → mute m (result code) ≡ false → failedBy m (result code) ≡ shownOf o → {x : Refusal} → ofFound code o ≡ some x → Told m x
+  found-told : (code : ℕ) (o : Option Placed) → unechoed m (result code) ≡ false → failedBy m (result code) ≡ shownOf o → withFailed (result code) ≡ true → {x : Refusal} → ofFound code o ≡ some x → Told m x
   unfolding ofFound
-  found-told code none k f e = let z : _≡_ {A = ℕ} 0 1 = cc in absurd (omega arith)
-  found-told code (some p) k f {x} e =
+  found-told code none k f t e = let z : _≡_ {A = ℕ} 0 1 = cc in absurd (omega arith)
+  found-told code (some p) k f t {x} e =
       let w : record { code = code; failed = some (p .avp); echo = true } ≡ x = cc in
-      subst (Told m) w (record { echo = sym (ap not k); failed = sym f })
+      subst (Told m) w (record { echo = sym (ap not k); failed = sym f; there = sym t })
 
   -- a required AVP that is absent
   missing-is : (k : Key) → Own k → missing k ≡ ofKey k (emptyOf (kindOf (k .vendor) (k .code)))
@@ -138,7 +139,12 @@ module _ (m : List ℕ) where
       go Closed = refl
       go Unknown = refl
 
-  absent-is : (ks : List Key) (l : Avps) → ownKeys ks ≡ true → (x : Refusal) → firstAbsent ks l ≡ some x → record { code = 5005; failed = firstLacking ks l; echo = true } ≡ x
+  -- a refusal with 5005 that shows this
+  record Lacking (a : Option Avp) (x : Refusal) : Type 0 where
+    is : record { code = 5005; failed = a; echo = true } ≡ x
+    shown : isShown a ≡ true
+
+  absent-is : (ks : List Key) (l : Avps) → ownKeys ks ≡ true → (x : Refusal) → firstAbsent ks l ≡ some x → Lacking (firstLacking ks l) x
   unfolding firstAbsent firstLacking ownKeys
   absent-is [] l h x e = let z : _≡_ {A = ℕ} 0 1 = cc in absurd (omega arith)
   absent-is (k ∷ ks) l h x e = go (isThere (find k l)) (absent-is ks l (and-true-right (ownKey k) (ownKeys ks) h)) e
@@ -149,11 +155,11 @@ module _ (m : List ℕ) where
       refusing : Option Avp → Refusal
       refusing a = record { code = 5005; failed = a; echo = true }
 
-      go : (b : Bool) → ((y : Refusal) → firstAbsent ks l ≡ some y → refusing (firstLacking ks l) ≡ y)
+      go : (b : Bool) → ((y : Refusal) → firstAbsent ks l ≡ some y → Lacking (firstLacking ks l) y)
           → cond b (firstAbsent ks l) (some (refusing (some (missing k)))) ≡ some x
-          → refusing (cond b (firstLacking ks l) (some (ofKey k (emptyOf (kindOf (k .vendor) (k .code)))))) ≡ x
+          → Lacking (cond b (firstLacking ks l) (some (ofKey k (emptyOf (kindOf (k .vendor) (k .code)))))) x
       go true ih q = ih x q
-      go false ih q = let w : refusing (some (missing k)) ≡ x = cc in sym (ap refusing shown) ∙ w
+      go false ih q = let w : refusing (some (missing k)) ≡ x = cc in record { is = sym (ap refusing shown) ∙ w; shown = refl }
 
   -- an AVP whose data is not right: the first, in the order of 01
   value-step : (right : List ℕ → Bool) (o q : Option Placed) → orElse (valueTest right o) (ofFound 5004 q) ≡ ofFound 5004 (cond (wrong right o) o q)
@@ -179,29 +185,31 @@ module _ (m : List ℕ) where
     echoes = ap (λ (o : Option Faulty). not (isFaulty o)) clear
 
     application-told : {x : Refusal} → applicationTest m ≡ some x → Told m x
-    unfolding applicationTest mute failedBy
-    application-told e = subst (Told m) (unless-is (eqb (applicationOf m) application) e) (record { echo = sym echoes; failed = refl })
+    unfolding applicationTest unechoed failedBy
+    application-told e = subst (Told m) (unless-is (eqb (applicationOf m) application) e) (record { echo = sym echoes; failed = refl; there = refl })
 
     command-told : {x : Refusal} → commandTest m ≡ some x → Told m x
-    unfolding commandTest mute failedBy
-    command-told e = subst (Told m) (unless-is (isCommand (commandOf (commandCode m))) e) (record { echo = sym echoes; failed = refl })
+    unfolding commandTest unechoed failedBy
+    command-told e = subst (Told m) (unless-is (isCommand (commandOf (commandCode m))) e) (record { echo = sym echoes; failed = refl; there = refl })
 
     unsupported-told : {x : Refusal} → unsupportedTest m ≡ some x → Told m x
-    unfolding unsupportedTest mute failedBy isFaulty
-    unsupported-told e = found-told 5001 (viewOf m .unsupported) (ap isFaulty clear) refl e
+    unfolding unsupportedTest unechoed failedBy isFaulty
+    unsupported-told e = found-told 5001 (viewOf m .unsupported) (ap isFaulty clear) refl refl e
 
     repeated-told : {x : Refusal} → repeatedTest m ≡ some x → Told m x
-    unfolding repeatedTest mute failedBy isFaulty
-    repeated-told e = found-told 5009 (repeated m) (ap isFaulty clear) refl e
+    unfolding repeatedTest unechoed failedBy isFaulty
+    repeated-told e = found-told 5009 (repeated m) (ap isFaulty clear) refl refl e
 
     absent-told : {x : Refusal} → absentTest m ≡ some x → Told m x
-    unfolding absentTest mute failedBy
-    absent-told e = subst (Told m) (absent-is (requiredIn (commandOf (commandCode m))) (avpsOf m) (required-own (commandCode m)) _ e) (record { echo = sym echoes; failed = refl })
+    unfolding absentTest unechoed failedBy
+    absent-told e =
+        let a = absent-is (requiredIn (commandOf (commandCode m))) (avpsOf m) (required-own (commandCode m)) _ e in
+        subst (Told m) (a .is) (record { echo = sym echoes; failed = refl; there = a .shown })
 
     values-told : {x : Refusal} → valuesTest m ≡ some x → Told m x
-    unfolding mute failedBy isFaulty headOf
+    unfolding unechoed failedBy isFaulty headOf
     values-told e =
-        found-told 5004 (firstWrong m) (ap isFaulty clear) (ap (λ (o : Option Faulty). orElse (headOf o) (shownOf (firstWrong m))) clear) (sym values-are ∙ e)
+        found-told 5004 (firstWrong m) (ap isFaulty clear) (ap (λ (o : Option Faulty). orElse (headOf o) (shownOf (firstWrong m))) clear) refl (sym values-are ∙ e)
 
   -- "first that applies"
   pub refusal-told : {x : Refusal} → refusal m ≡ some x → Told m x

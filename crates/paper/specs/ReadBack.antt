@@ -100,8 +100,8 @@ isFaulty none = false
 isFaulty (some f) = true
 
 -- "After 5011, 5015, 3008 and faults of the visit no Session-Id and no Proxy-Info."
-unfoldable pub mute : List ℕ → Said → Bool
-mute m s = tells 5011 s || (tells 5015 s || (tells 3008 s || isFaulty (viewOf m .fault)))
+unfoldable pub unechoed : List ℕ → Said → Bool
+unechoed m s = tells 5011 s || (tells 5015 s || (tells 3008 s || isFaulty (viewOf m .fault)))
 
 -- "Subscription-Data: Subscriber-Status 0; Access-Restriction-Data if not 0; AMBR (uplink, downlink).", of the record's bytes 24–27, 196–199, 200–203
 unfoldable pub subscriptionPart : List ℕ → Held
@@ -168,14 +168,14 @@ failedPart (some a) = showing failedAvp a no-more
 -- "AVPs in order", of the answer to the request `m` that was told `s`; `r` is the record with its IMSI as it was
 unfoldable pub holds : List ℕ → List ℕ → List ℕ → List ℕ → Said → Held
 holds m host realm r s =
-    cond (mute m s) no-more (firstPart sessionId (find sessionId (avpsOf m)))
+    cond (unechoed m s) no-more (firstPart sessionId (find sessionId (avpsOf m)))
     and-then resultPart s
     and-then a-number authSessionState 1
     and-then a-text originHost host
     and-then a-text originRealm realm
     and-then failedPart (failedBy m s)
     and-then cond (tells 2001 s) (successPart m r) no-more
-    and-then cond (mute m s) no-more (eachPart proxyInfo (avpsOf m))
+    and-then cond (unechoed m s) no-more (eachPart proxyInfo (avpsOf m))
 
 -- "E set for 3xxx"
 abbrev pub is3xxx : Said → Bool
@@ -186,7 +186,7 @@ is3xxx (experimental code) = false
 -- the header: "Version 1; R, E, T clear but E set for 3xxx; P, command, application and both identifiers as received." P is 64, E is 32
 pub record HeaderRead (m a : List ℕ) (s : Said) : Type 0 where
   pub version : versionOf a ≡ 1
-  pub size : messageLength a ≡ length a
+  pub own-length : messageLength a ≡ length a
   pub fours : length a % 4 ≡ 0
   pub flags : getD a 4 0 ≡ cond (isProxiable m) 64 0 + cond (is3xxx s) 32 0
   pub command : commandCode a ≡ commandCode m
@@ -194,8 +194,14 @@ pub record HeaderRead (m a : List ℕ) (s : Said) : Type 0 where
   pub hop-by-hop : numAt 4 a 12 ≡ numAt 4 m 12
   pub end-to-end : numAt 4 a 16 ≡ numAt 4 m 16
 
--- what Failed-AVP shows is read off the request's own bytes, from its place to the end of what encloses it
-pub record FailedRead (m : List ℕ) : Type 0 where
+abbrev pub isShown : Option Avp → Bool
+isShown none = false
+isShown (some a) = true
+
+-- Failed-AVP stands in the answer for its five Result-Codes and no other;
+-- and what it shows of the request `m` is read off the request's own bytes, from its place to the end of what encloses it
+pub record FailedRead (m : List ℕ) (s : Said) : Type 0 where
+  pub there : isShown (failedBy m s) ≡ tells 5001 s || (tells 5004 s || (tells 5005 s || (tells 5009 s || tells 5014 s)))
   pub unknown : Standing m (viewOf m .unsupported)
   pub second : Standing m (repeated m)
   pub wrong-value : Standing m (firstWrong m)
@@ -212,12 +218,12 @@ pub record ReadBack (l : Lent) (s : Said) (a : List ℕ) : Type 0 where
   pub header : HeaderRead (l .request) a s
   pub no-fault : told (viewOf a) ≡ Clean
   pub holding : ReadAs (avpsOf a) (holds (l .request) (l .host) (l .realm) (before l) s)
-  pub failed : FailedRead (l .request)
+  pub failed : FailedRead (l .request) s
   -- the size, the code and the number of entries that the outcome names are those read
   pub size : length a ≡ outcome l .size
   pub codes : codesIn a ≡ codesTold s
   pub listed : length (listedBy l) ≡ outcome l .listed
 
--- every answer, whatever was lent
+-- every answer, whatever was lent: the number is 0 where there is one
 abbrev pub AnswersReadBack : Type 0
-AnswersReadBack = (l : Lent) → Bytes (l .request) → (answered : outcome l .verdict ≡ none → ⊥) → ReadBack l (said (outcome l)) (answerOf l)
+AnswersReadBack = (l : Lent) → Bytes (l .request) → outcome l .number ≡ 0 → ReadBack l (said (outcome l)) (answerOf l)
