@@ -41,6 +41,9 @@ subscription-takes restriction uplink downlink = go (eqb restriction 0)
     go true = omega arith
     go false = omega arith
 
+record-takes : (r : List ℕ) → length (subscriptionItem r) ≤ 88
+record-takes r = subscription-takes _ _ _
+
 number-takes : (k : Key) (n : ℕ) → length (numberItem k n) ≤ 16
 number-takes k n = let h = headSize-most (flagsFor (k .vendor) true) in rw (length-number k n) (omega arith)
 
@@ -48,7 +51,7 @@ number-takes k n = let h = headSize-most (flagsFor (k .vendor) true) in rw (leng
 ulr-items : (m r : List ℕ) → length (numberItem ulaFlags 1 ++ cond (skipSubscriberData m) [] (subscriptionItem r)) ≤ 104
 ulr-items m r =
     let u = number-takes ulaFlags 1 in
-    let s = subscription-takes (restrictionOf r) (numAt 4 r ambrAt) (numAt 4 r (ambrAt + 4)) in
+    let s = record-takes r in
     cond-cases (λ x. length (numberItem ulaFlags 1 ++ x) ≤ 104) (skipSubscriberData m) {x = []} {y = subscriptionItem r} (λ e. rw length-append (omega arith)) (λ e. rw length-append (omega arith))
 
 pur-items : (m : List ℕ) (n : ℕ) → length (cond (isPur m) (numberItem puaFlags n) []) ≤ 16
