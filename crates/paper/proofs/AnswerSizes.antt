@@ -9,14 +9,14 @@ use native.Mathlib.Omega.{arith}
 use lib.ListN.{length, length-append}
 use lib.Dec.{leb, eqb}
 use borrow.Author.Tests.{leb-true}
-use Rattle.wire.specs.Number.{be, numAt}
+use Rattle.wire.specs.Number.{be}
 use Rattle.wire.specs.Stretch.{nameBytes}
 use Rattle.wire.proofs.ListLaws.{and-true-left, and-true-right}
 use Rattle.paper.specs.Avp.{headSize, padded, flagsFor, vendorField, asReceived, written}
-use Rattle.paper.specs.Layout.{longestAnswer, ambrAt}
+use Rattle.paper.specs.Layout.{longestAnswer}
 use Rattle.paper.specs.Profile.{Key, bandwidthDownlink, bandwidthUplink, subscriptionData, ulaFlags, subscriberStatus, accessRestrictionData, ambr, puaFlags}
 use Rattle.paper.specs.Request.{Refusal, isName, refusal}
-use Rattle.paper.specs.Procedures.{isUlr, isPur, skipSubscriberData, restrictionOf, Done}
+use Rattle.paper.specs.Procedures.{isUlr, isPur, skipSubscriberData, Done}
 use Rattle.paper.specs.Answer as Answer
 use Rattle.paper.specs.Answer.{item, numberItem, restrictionItem, subscriptionOf, subscriptionItem, failedItem, Reply, replyAvps, answer, resultItem}
 use Rattle.paper.specs.Outcome.{refusalReply, experimentalReply, successItems, successReply}

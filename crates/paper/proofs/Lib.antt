@@ -55,6 +55,7 @@ pub mod ReadBack
 pub mod ReadBackAvps
 pub mod ReadBackCodes
 mod ReadBackExamples
+pub mod ReadBackFind
 pub mod ReadBackHeader
 pub mod ReadBackParts
 pub mod ReadBackPlaces

@@ -1,31 +1,30 @@
 -- Promise: every answer, read by our message reader, has no fault and holds what 01 says, for each kind of outcome.
 -- Assumes nothing.
 use mathlib.Core.Path.{_≡_, refl, sym, ap, _∙_, subst}
-use mathlib.Core.Bool.{Bool, true, false, cond, not, false≢true}
+use mathlib.Core.Bool.{true, not, false≢true}
 use mathlib.Core.Option.{Option, none, some}
 use mathlib.Core.List.{List, [], _∷_}
-use Prim.Native.Nat.{ℕ, _^_, _≤_, _<_}
+use Prim.Native.Nat.{ℕ, _≤_}
 use native.Mathlib.Omega.{arith}
-use lib.Dec.{eqb}
-use lib.ListN.{length, drop}
+use lib.ListN.{length}
 use borrow.Author.Tests.{ne-eqb}
 use Rattle.wire.specs.Number.{Bytes}
 use Rattle.dictionary.specs.Rows.{kindOf}
 use Rattle.paper.specs.declared.Visit.the-variants.{Clean}
-use Rattle.paper.specs.Reader.{Faulty, mostGroups, avps, view, told}
+use Rattle.paper.specs.Avp.{Writable}
+use Rattle.paper.specs.Reader.{Faulty, mostGroups, view, told}
 use Rattle.paper.specs.Layout.{mostEntries}
-use Rattle.paper.specs.Table.{lookup, recordOf}
+use Rattle.paper.specs.Table.{recordOf}
 use Rattle.paper.specs.Request.{Refusal, avpsOf, viewOf, refusal}
-use Rattle.paper.specs.Procedures.{Entry, sender, imsiField, carriedOut}
-use Rattle.paper.specs.Answer as Answer
-use Rattle.paper.specs.Answer.{Reply, replyAvps, answer}
+use Rattle.paper.specs.Procedures.{Entry, Done, sender, carriedOut}
+use Rattle.paper.specs.Answer.{Reply, replyAvps}
 use Rattle.paper.specs.Passed.{Passed}
 use Rattle.paper.specs.Outcome.{Lent, Outcome, silent, answered, refusalReply, experimentalReply, successReply, outcome}
 use Rattle.paper.specs.Read.{before, answerOf, entriesIn, listedBy}
 use Rattle.paper.specs.Refusals.{Said, result, experimental, saidBy, said}
-use Rattle.paper.specs.ReadBack.{Held, no-more, ReadAs, tells, isFaulty, unechoed, successPart, failedBy, holds, HeaderRead, ReadBack, AnswersReadBack}
+use Rattle.paper.specs.Promises.{Accepted}
+use Rattle.paper.specs.ReadBack.{Held, ReadAs, isFaulty, unechoed, failedBy, holds, HeaderRead, ReadBack, AnswersReadBack}
 use Rattle.paper.proofs.OptionLaws.{Holds}
-use Rattle.paper.proofs.TableLaws.{lookup-some}
 use Rattle.paper.proofs.EntryLaws.{EachOf, Listable}
 use Rattle.paper.proofs.ListedLaws.{Numbered, carried-numbered}
 use Rattle.paper.proofs.ProcedureLaws.{carried-each, carried-few}
@@ -36,10 +35,9 @@ use Rattle.paper.proofs.AnswerSizes.{ReplyTo, answer-fours}
 use Rattle.paper.proofs.OutcomeLaws.{Comes, silence, refused, ruled, done, outcome-comes}
 use Rattle.paper.proofs.PromiseTests.{refusal-otherwise}
 use Rattle.paper.proofs.PromiseEntries.{Readable, entries-back}
-use Rattle.paper.proofs.PromiseSuccess.{before-is}
-use Rattle.paper.proofs.PromiseAnswer.{answer-is, behind-is, answer-avps, answer-short}
-use Rattle.paper.proofs.ReadBackAvps.{bytesOf, seen, Reads, read-held}
-use Rattle.paper.proofs.ReadBackHeader.{toldBy, header-read}
+use Rattle.paper.proofs.PromiseSuccess.{Success, success, inside, before-is}
+use Rattle.paper.proofs.ReadBackAvps.{seen, Reads, read-held}
+use Rattle.paper.proofs.ReadBackHeader.{toldBy, header-read, answer-is, behind-is, answer-avps, answer-short}
 use Rattle.paper.proofs.ReadBackPlaces.{failed-read, failed-writable}
 use Rattle.paper.proofs.ReadBackRefusals.{no-fault, refusal-told}
 use Rattle.paper.proofs.ReadBackParts.{Made, none-made, success-made, Promised, holds-made}
@@ -59,10 +57,11 @@ record Answers (l : Lent) (t : List ℕ) (es : List Entry) (y : Reply) : Type 0 
   passed : Passed l
   reply : ReplyTo (l .request) y
   promised : Promised (l .request) (before l) y
+  writable : Holds Writable (failedBy (l .request) (toldBy (y .verdict)))
   readable : EachOf Readable es
   few : length es ≤ mostEntries
 
-module _ (l : Lent) (b : Bytes (l .request)) (t : List ℕ) (es : List Entry) (y : Reply) (k : Answers l t es y) where
+module _ (l : Lent) (t : List ℕ) (es : List Entry) (y : Reply) (k : Answers l t es y) where
   its-said : said (outcome l) ≡ toldBy (y .verdict)
   unfolding said answered
   its-said = ap said (k .comes)
@@ -75,7 +74,7 @@ module _ (l : Lent) (b : Bytes (l .request)) (t : List ℕ) (es : List Entry) (y
   its-held = holds (l .request) (l .host) (l .realm) (before l) (toldBy (y .verdict))
 
   its-bytes : Made mostGroups its-held its-avps
-  its-bytes = holds-made (l .request) (l .host) (l .realm) (before l) y (k .promised) (failed-writable (l .request) (k .passed .least) b (toldBy (y .verdict)))
+  its-bytes = holds-made (l .request) (l .host) (l .realm) (before l) y (k .promised) (k .writable)
 
   its-reading : Reads mostGroups 20 its-avps its-held
   its-reading =
@@ -143,28 +142,54 @@ success-promised : (m : List ℕ) (i : ℕ) (t : List ℕ) → refusal m ≡ non
 unfolding successReply saidBy unechoed failedBy
 success-promised m i t n = record { echo = sym (unrefused-echoes m n); failed = refl; there = refl; extra = success-made m i t }
 
+refused-answers : (l : Lent) → Bytes (l .request) → Passed l → (x : Refusal) → refusal (l .request) ≡ some x → outcome l ≡ answered l (l .table) [] (refusalReply x)
+    → Answers l (l .table) [] (refusalReply x)
+refused-answers l b p x e q =
+    record {
+      comes = q;
+      passed = p;
+      reply = Sizes.refused x e;
+      promised = refusal-promised (l .request) (before l) x e;
+      writable = failed-writable (l .request) (p .least) b (toldBy (refusalReply x .verdict));
+      readable = tt;
+      few = omega arith;
+    }
+
+ruled-answers : (l : Lent) → Passed l → refusal (l .request) ≡ none → (code : ℕ) → outcome l ≡ answered l (l .table) [] (experimentalReply code) → Answers l (l .table) [] (experimentalReply code)
+unfolding experimentalReply saidBy failedBy
+ruled-answers l p n code q =
+    record { comes = q; passed = p; reply = Sizes.experimental code n; promised = experimental-promised (l .request) (before l) code n; writable = tt; readable = tt; few = omega arith }
+
+module _ (l : Lent) (s : Success l) where
+  abbrev done-by : Done
+  done-by = carriedOut (l .request) (s .place) (l .table)
+
+  success-answers : Answers l (done-by .table) (done-by .entries) (successReply (l .request) (recordOf (l .table) (s .place)) done-by)
+  unfolding successReply saidBy failedBy
+  success-answers =
+      let m = l .request in
+      let i = s .place in
+      record {
+        comes = s .comes;
+        passed = s .passed;
+        reply = Sizes.success (recordOf (l .table) i) done-by (s .unrefused);
+        promised = rw (before-is l s) (success-promised m i (l .table) (s .unrefused));
+        writable = tt;
+        readable = readable-each (sender m) (done-by .entries) (carried-each m i (l .table) (s .passed .table-valid) (inside l s)) (carried-numbered m i (l .table));
+        few = carried-few m i (l .table);
+      }
+
+-- what the answer of an accepted request holds
+pub accepted-holds : (l : Lent) → Accepted l → ReadAs (avpsOf (answerOf l)) (holds (l .request) (l .host) (l .realm) (before l) (result 2001))
+unfolding successReply saidBy
+accepted-holds l a = held l _ _ _ (success-answers l (success l a))
+
 by-comes : (l : Lent) → Bytes (l .request) → (o : Outcome) → Comes l o → outcome l ≡ o → (o .verdict ≡ none → ⊥) → ReadBack l (said (outcome l)) (answerOf l)
 unfolding silent
 by-comes l b o (silence n) q a = absurd (a refl)
-by-comes l b o (refused p x e) q a =
-    answer-reads l b (l .table) [] (refusalReply x)
-    (record { comes = q; passed = p; reply = Sizes.refused x e; promised = refusal-promised (l .request) (before l) x e; readable = tt; few = omega arith })
-by-comes l b o (ruled p n code) q a =
-    answer-reads l b (l .table) [] (experimentalReply code)
-    (record { comes = q; passed = p; reply = Sizes.experimental code n; promised = experimental-promised (l .request) (before l) code n; readable = tt; few = omega arith })
-by-comes l b o (done p n i f) q a =
-    let m = l .request in
-    let t = l .table in
-    let in-table = lookup-some (imsiField m) t i f .0 in
-    answer-reads l b (carriedOut m i t .table) (carriedOut m i t .entries) (successReply m (recordOf t i) (carriedOut m i t))
-    (record {
-      comes = q;
-      passed = p;
-      reply = Sizes.success (recordOf t i) (carriedOut m i t) n;
-      promised = rw (before-is l (record { place = i; passed = p; unrefused = n; found = f; comes = q })) (success-promised m i t n);
-      readable = readable-each (sender m) (carriedOut m i t .entries) (carried-each m i t (p .table-valid) in-table) (carried-numbered m i t);
-      few = carried-few m i t;
-    })
+by-comes l b o (refused p x e) q a = answer-reads l _ _ _ (refused-answers l b p x e q)
+by-comes l b o (ruled p n code) q a = answer-reads l _ _ _ (ruled-answers l p n code q)
+by-comes l b o (done p n i f) q a = answer-reads l _ _ _ (success-answers l (record { place = i; passed = p; unrefused = n; found = f; comes = q }))
 
 -- a call that comes to the number 0 has an answer
 has-answer : (l : Lent) → outcome l .number ≡ 0 → outcome l .verdict ≡ none → ⊥

@@ -2,28 +2,26 @@
 -- Assumes nothing.
 use mathlib.Core.Path.{_≡_, refl, sym, ap, _∙_}
 use mathlib.Core.Logic.{_≢_}
-use mathlib.Core.Bool.{true, cond}
+use mathlib.Core.Bool.{true}
 use mathlib.Core.List.{List, [], _++_, append-assoc, append-nil}
 use Prim.Native.Nat.{ℕ, _+_, _-_, _^_, _≤_, _<_}
 use native.Mathlib.Omega.{arith}
 use lib.ListN.{length, length-append}
 use Rattle.dictionary.specs.declared.Kind.{Kind}
-use Rattle.dictionary.specs.declared.Kind.the-variants.{Group, Closed, Unknown}
+use Rattle.dictionary.specs.declared.Kind.the-variants.{Group, Unknown}
 use Rattle.dictionary.specs.Kinds.{sizeRight}
 use Rattle.dictionary.specs.Rows.{kindOf}
-use Rattle.paper.specs.declared.Visit.{Visit}
-use Rattle.paper.specs.declared.Visit.the-variants.{Clean, Fault}
-use Rattle.paper.specs.Avp.{Avp, Writable, avpOf, headSize, flagsFor, asReceived}
-use Rattle.paper.specs.Reader.{Placed, Avps, whole, more, avps, bodyAt, each, _then_, viewAvp, view, group, told, join}
+use Rattle.paper.specs.declared.Visit.the-variants.{Clean}
+use Rattle.paper.specs.Avp.{Avp, Writable, headSize, flagsFor, asReceived}
+use Rattle.paper.specs.Reader.{Placed, Avps, whole, more, avps, bodyAt, each, viewAvp, view, told, join}
 use Rattle.paper.specs.Profile.{Key}
 use Rattle.paper.specs.Answer.{item}
 use Rattle.paper.specs.ReadBack.{Held, no-more, plain, showing, grouped, octet, ofKey, ReadAs, ends, reads, shows, enters, _and-then_}
 use Rattle.paper.proofs.AvpLaws.{padded-least}
 use Rattle.paper.proofs.AvpsLaws.{avps-empty, avps-one}
 use Rattle.paper.proofs.ViewLaws.{told-empty, told-then, told-group, told-sized, view-known, view-group-below}
-use Rattle.paper.proofs.WrittenLaws.{one-written, read-as-received}
+use Rattle.paper.proofs.WrittenLaws.{one-written, read-as-received, one-written-for, read-written}
 use Rattle.paper.proofs.AnswerParts.{length-item}
-use Rattle.paper.proofs.PromiseAnswer.{short, stands, item-front, rest-short}
 
 -- ---- their bytes
 
@@ -85,6 +83,13 @@ one-alone at a w =
     ∙ avps-one at [] (one-written a w)
     ∙ rw (append-nil x, read-as-received a w, avps-empty (at + length x))
 
+-- no answer is as long as this, so every AVP of an answer says its own length
+abbrev pub short : ℕ
+short = 5000
+
+rest-short : (a s : List ℕ) → length (a ++ s) ≤ short → length s ≤ short
+rest-short a s h = let l = length-append a s in omega arith
+
 -- what the visit makes of an AVP's data does not matter here
 abbrev pub seen : ℕ → ℕ → List ℕ → List ℕ
 seen vendor code x = x
@@ -94,12 +99,26 @@ pub record Reads (left at : ℕ) (s : List ℕ) (h : Held) : Type 0 where
   pub these : ReadAs (avps at s) h
   pub clean : told (view kindOf seen left at s) ≡ Clean
 
+-- an AVP in front of a stretch
 module _ (left : ℕ) (k : Key) (x s : List ℕ) {kind : Kind} (i : KeyIn kind k) (l : length (item k x ++ s) ≤ short) (at : ℕ) where
+  own-size : headSize (flagsFor (k .vendor) true) + length x ≤ short
+  own-size =
+      let n = length-item k x in
+      let p = padded-least (headSize (flagsFor (k .vendor) true) + length x) in
+      let e = length-append (item k x) s in
+      omega arith
+
+  -- it says its own length
+  fits : headSize (flagsFor (k .vendor) true) + length x < 256 ^ 3
+  fits = let o = own-size in omega arith
+
   abbrev here : Placed
-  here = stands k x s (i .own .vendor) (i .own .code) l at
+  here = record { at = at; end = at + length (item k x ++ s); avp = record { code = k .code; flags = flagsFor (k .vendor) true; vendor = k .vendor; body = x } }
 
   front : avps at (item k x ++ s) ≡ more here (avps (at + length (item k x)) s)
-  front = item-front k x s (i .own .vendor) (i .own .code) l at
+  front =
+      avps-one at s (one-written-for (k .vendor) (k .code) true x (i .own .vendor) (i .own .code) fits)
+      ∙ ap (λ (a : Avp). more (record { at = at; end = at + length (item k x ++ s); avp = a }) (avps (at + length (item k x)) s)) (read-written (k .vendor) (k .code) true x (i .own .vendor) (i .own .code) fits)
 
   of-key : here .avp ≡ ofKey k x
   of-key = ap (λ (n : ℕ). record { code = k .code; flags = n; vendor = k .vendor; body = x }) (i .own .flags)
@@ -114,11 +133,7 @@ module _ (left : ℕ) (k : Key) (x s : List ℕ) {kind : Kind} (i : KeyIn kind k
 
   -- the AVP's data is shorter than the whole
   data-short : length x ≤ short
-  data-short =
-      let n = length-item k x in
-      let p = padded-least (headSize (flagsFor (k .vendor) true) + length x) in
-      let e = length-append (item k x) s in
-      omega arith
+  data-short = let o = own-size in omega arith
 
 -- an AVP that is not entered
 leaf-visited : (left : ℕ) (k : Key) (x s : List ℕ) (f : Fitting k x) (l : length (item k x ++ s) ≤ short) (at : ℕ) → told (viewAvp kindOf seen left (here left k x s (f .key) l at)) ≡ Clean

@@ -6,7 +6,7 @@ use Prim.Native.Nat.{ℕ}
 use lib.ListN.{replicate}
 use Rattle.wire.specs.Put.{put}
 use Rattle.paper.specs.Avp.{Avp}
-use Rattle.paper.specs.Profile.{Key, base, tgpp, ulr, pur, userName, proxyInfo, terminalInformation, imei, ratType, ulrFlags}
+use Rattle.paper.specs.Profile.{base, tgpp, ulr, pur, userName, proxyInfo, terminalInformation, imei, ratType, ulrFlags}
 use Rattle.paper.specs.Answer.{item, numberItem}
 use Rattle.paper.specs.Outcome.{Lent, outcome}
 use Rattle.paper.specs.Read.{before}

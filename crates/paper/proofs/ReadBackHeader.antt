@@ -1,25 +1,34 @@
--- The header of an answer, read from its bytes.
+-- The header of an answer, read from its bytes, and what stands behind it.
 -- Assumes nothing.
-use mathlib.Core.Path.{_≡_, refl, sym, ap, _∙_}
+use mathlib.Core.Path.{_≡_, refl, sym, ap, _∙_, subst}
 use mathlib.Core.Bool.{Bool, true, false, cond, _&&_}
-use mathlib.Core.Option.{Option, none, some}
+use mathlib.Core.Option.{some}
 use mathlib.Core.List.{List, [], _∷_, _++_}
 use Prim.Native.Nat.{ℕ, _+_, _-_, _/_, _%_, _^_, _≤_, _<_}
+use native.Mathlib.Nat.{zero-add}
 use native.Mathlib.Omega.{arith}
 use lib.Dec.{leb, eqb}
-use lib.ListN.{length, getD, List·getD-append}
-use lib.Seq.{getD-append-add}
+use lib.ListN.{length, take, drop, getD, List·getD-append}
+use lib.Seq.{drop-at, getD-append-add}
 use borrow.Author.Tests.{leb-true, leb-false, eq-eqb, ne-eqb}
 use Rattle.wire.specs.Number.{be, numAt}
-use Rattle.wire.specs.Put.{part}
+use Rattle.wire.specs.Put.{part, put}
 use Rattle.wire.proofs.ListLaws.{length-part, getD-part}
 use Rattle.wire.proofs.NumberLaws.{numAt-agree}
-use Rattle.paper.specs.Request.{isProxiable}
+use Rattle.wire.proofs.PutLaws.{take-put}
+use Rattle.paper.specs.Reader.{avps}
+use Rattle.paper.specs.Request.{isProxiable, avpsOf}
+use Rattle.paper.specs.Procedures.{Entry}
 use Rattle.paper.specs.Answer as Answer
 use Rattle.paper.specs.Answer.{Verdict, Reply, isProtocolError, replyFlags, replyAvps, message, answer}
+use Rattle.paper.specs.Outcome.{Lent, Outcome, answered, outcome}
+use Rattle.paper.specs.Passed.{Passed}
+use Rattle.paper.specs.Read.{answerOf}
 use Rattle.paper.specs.Refusals.{Said, saidBy}
 use Rattle.paper.specs.ReadBack.{is3xxx, HeaderRead}
 use Rattle.paper.proofs.AnswerParts.{length-answer, answer-length-field, fours-add}
+use Rattle.paper.proofs.OutcomeLaws.{outcome-size}
+use Rattle.paper.proofs.ReadBackAvps.{short}
 
 -- what an answer with this verdict tells
 abbrev pub toldBy : Verdict → Said
@@ -57,10 +66,10 @@ module _ (m host realm : List ℕ) (y : Reply) (least : 20 ≤ length m) where
 
   pub header-read : length its < 256 ^ 3 → length (replyAvps m host realm y) % 4 ≡ 0 → HeaderRead m its (toldBy (y .verdict))
   unfolding answer message replyFlags
-  header-read short fours =
+  header-read own fours =
       record {
         version = refl;
-        own-length = answer-length-field m host realm y least short;
+        own-length = answer-length-field m host realm y least own;
         fours = rw (length-answer m host realm y least) (fours-add 20 _ refl fours);
         flags = ap (λ (b : Bool). cond (isProxiable m) 64 0 + cond b 32 0) (error-told (y .verdict));
         command = number-copied 3 5 (omega arith) (omega arith);
@@ -68,3 +77,33 @@ module _ (m host realm : List ℕ) (y : Reply) (least : 20 ≤ length m) where
         hop-by-hop = number-copied 4 12 (omega arith) (omega arith);
         end-to-end = number-copied 4 16 (omega arith) (omega arith);
       }
+
+-- ---- the answer of a call
+
+behind-header : (m host realm : List ℕ) (y : Reply) → 20 ≤ length m → drop 20 (answer m host realm y) ≡ replyAvps m host realm y
+unfolding answer message
+behind-header m host realm y h = drop-at (part 5 15 m) (replyAvps m host realm y) 15 (length-part 5 15 m (omega arith))
+
+module _ (l : Lent) (t : List ℕ) (es : List Entry) (y : Reply) (comes : outcome l ≡ answered l t es y) where
+  pub answer-is : answerOf l ≡ answer (l .request) (l .host) (l .realm) y
+  unfolding answered
+  answer-is =
+      let a = answer (l .request) (l .host) (l .realm) y in
+      ap (λ (o : Outcome). take (o .size) (o .answer)) comes
+      ∙ ap (λ (n : ℕ). take n (put 0 a (l .answer))) (sym (zero-add (length a)))
+      ∙ take-put 0 a (l .answer) (omega arith)
+
+  module _ (p : Passed l) where
+    pub behind-is : drop 20 (answerOf l) ≡ replyAvps (l .request) (l .host) (l .realm) y
+    behind-is = ap (drop 20) answer-is ∙ behind-header (l .request) (l .host) (l .realm) y (p .least)
+
+    pub answer-avps : avpsOf (answerOf l) ≡ avps 20 (replyAvps (l .request) (l .host) (l .realm) y)
+    unfolding avpsOf
+    answer-avps = ap (avps 20) behind-is
+
+    pub answer-short : length (replyAvps (l .request) (l .host) (l .realm) y) ≤ short
+    unfolding answered
+    answer-short =
+        let n = length-answer (l .request) (l .host) (l .realm) y (p .least) in
+        let k : length (answer (l .request) (l .host) (l .realm) y) ≤ 4292 = subst (λ (o : Outcome). o .size ≤ 4292) comes (outcome-size l) in
+        omega arith

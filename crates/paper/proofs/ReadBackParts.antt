@@ -16,19 +16,17 @@ use Rattle.dictionary.specs.Rows.{kindOf, kindIn, kindBeside, keyOf, keys, kind
 use Rattle.paper.specs.Avp.{Avp, Writable, asReceived}
 use Rattle.paper.specs.Reader.{Placed, Avps, whole, broken, more, mostGroups}
 use Rattle.paper.specs.Find.{hasKey}
-use Rattle.paper.specs.Layout.{ambrAt}
 use Rattle.paper.specs.Profile.{Key, sessionId, originHost, vendorId, resultCode, authSessionState, failedAvp, proxyInfo, originRealm, experimentalResult, experimentalResultCode, bandwidthDownlink, bandwidthUplink, subscriptionData, ulaFlags, subscriberStatus, accessRestrictionData, ambr, puaFlags}
 use Rattle.paper.specs.Table.{mme, sgsn, recordOf}
 use Rattle.paper.specs.Request.{avpsOf, find}
-use Rattle.paper.specs.Procedures.{isUlr, isPur, skipSubscriberData, restrictionOf, purges, purgeUe, carriedOut}
+use Rattle.paper.specs.Procedures.{isUlr, isPur, skipSubscriberData, purges, purgeUe, carriedOut}
 use Rattle.paper.specs.Answer as Answer
 use Rattle.paper.specs.Answer.{item, numberItem, Verdict, resultItem, echoed, eachOf, failedItem, restrictionItem, subscriptionOf, subscriptionItem, Reply, replyAvps}
 use Rattle.paper.specs.Outcome.{successItems}
 use Rattle.paper.specs.Refusals.{saidBy}
-use Rattle.paper.specs.ReadBack.{Held, no-more, plain, showing, grouped, a-number, a-text, a-group, _and-then_, tells, resultPart, firstPart, eachPart, unechoed, subscriptionPart, setsBit, successPart, failedBy, failedPart, isShown, holds}
-use Rattle.paper.proofs.AvpsLaws.{cond-cases}
+use Rattle.paper.specs.ReadBack.{Held, no-more, a-number, a-text, a-group, _and-then_, tells, resultPart, firstPart, eachPart, unechoed, subscriptionPart, setsBit, successPart, failedBy, failedPart, isShown, holds}
 use Rattle.paper.proofs.OptionLaws.{Holds}
-use Rattle.paper.proofs.ReadBackAvps.{bytesOf, bytes-then, KeyIn, Fitting, Sound, sound-then}
+use Rattle.paper.proofs.ReadBackAvps.{bytesOf, bytes-then, Fitting, Sound, sound-then}
 use Rattle.paper.proofs.ReadBackPlaces.{withFailed, ownKey, own-key}
 use Rattle.paper.proofs.ReadBackHeader.{toldBy}
 
@@ -128,7 +126,7 @@ subscription-made r =
     (group-made ambr refl refl (omega arith) (both (number-made bandwidthUplink (numAt 4 r 196) refl refl) (number-made bandwidthDownlink (numAt 4 r 200) refl refl)))))
 
 -- the purge bits that a PUR sets
-purges-are : (m : List ℕ) (i : ℕ) (t : List ℕ) → isUlr m ≡ false → isPur m ≡ true
+pub purges-are : (m : List ℕ) (i : ℕ) (t : List ℕ) → isUlr m ≡ false → isPur m ≡ true
     → carriedOut m i t .purges ≡ cond (setsBit mme m (recordOf t i)) 1 0 + cond (setsBit sgsn m (recordOf t i)) 2 0
 unfolding carriedOut purgeUe purges
 purges-are m i t u p = rw (u, p)

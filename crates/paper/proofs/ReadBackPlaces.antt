@@ -17,11 +17,11 @@ use Rattle.wire.proofs.NumberLaws.{numAt-lt, bytes-part}
 use Rattle.dictionary.specs.declared.Kind.{Kind}
 use Rattle.dictionary.specs.declared.Kind.the-variants.{Four, Eight, Any, Group, Closed, Unknown}
 use Rattle.dictionary.specs.Rows.{kindOf}
-use Rattle.paper.specs.Avp.{Avp, Writable, headSize, flagsOf, avpOf, bareOf, flagsFor}
-use Rattle.paper.specs.Reader.{Placed, Avps, whole, avps, Faulty}
+use Rattle.paper.specs.Avp.{Avp, Writable, flagsOf, bareOf, flagsFor}
+use Rattle.paper.specs.Reader.{Placed, Avps, Faulty}
 use Rattle.paper.specs.Find.{firstSecond}
 use Rattle.paper.specs.Widened.{shownOf}
-use Rattle.paper.specs.Profile.{Key, Command, ulr, pur, nor, commands, commandIn, commandOf, userName, originHost, visitedPlmnId, terminalInformation, imei}
+use Rattle.paper.specs.Profile.{Key, ulr, pur, nor, commands, commandIn, commandOf, userName, originHost, visitedPlmnId, terminalInformation, imei}
 use Rattle.paper.specs.Request.{commandCode, avpsOf, viewOf, find, inside, isThere, has, used, requiredIn, terminal, imeiOf, ifUsed, keyNumber, earlier, repeated, imsiDigits, isName, threeBytes, imeiDigits}
 use Rattle.paper.specs.Refusals.{Said, wrong}
 use Rattle.paper.specs.Shown.{stretch}
@@ -31,7 +31,7 @@ use Rattle.paper.proofs.AvpLaws.{headSize-most}
 use Rattle.paper.proofs.AvpsLaws.{cond-cases, firstOf-each, firstSecond-each}
 use Rattle.paper.proofs.OptionLaws.{Holds, holds-orElse}
 use Rattle.paper.proofs.StandsIn.{AllIn, stretch-rest, part-all-in, inside-all-in, unsupported-in}
-use Rattle.paper.proofs.ShownLaws.{Shows, view-shows}
+use Rattle.paper.proofs.ShownLaws.{view-shows}
 use Rattle.paper.proofs.WrittenLaws.{vendor-fits, vendor-without-V, read-writable, for-key-writable}
 use Rattle.paper.proofs.ReadBackAvps.{Own}
 

@@ -8,7 +8,7 @@ use Prim.Native.Nat.{ℕ, _%_}
 use native.Mathlib.Omega.{arith}
 use lib.Dec.{eqb}
 use lib.ListN.{length, drop}
-use borrow.Author.Tests.{eqb-true, ne-eqb}
+use borrow.Author.Tests.{eqb-true}
 use Rattle.wire.proofs.ListLaws.{and-true-left, and-true-right}
 use Rattle.dictionary.specs.declared.Kind.{Kind}
 use Rattle.dictionary.specs.declared.Kind.the-variants.{Four, Eight, Any, Group, Closed, Unknown}
@@ -17,14 +17,13 @@ use Rattle.paper.specs.Avp.{Avp}
 use Rattle.paper.specs.Reader.{Placed, Avps, Faulty, orElse}
 use Rattle.paper.specs.Widened.{shownOf}
 use Rattle.paper.specs.Profile.{Key, application, commandOf, userName, originHost, visitedPlmnId}
-use Rattle.paper.specs.Request.{Refusal, versionOf, messageLength, isError, applicationOf, commandCode, isCommand, avpsOf, viewOf, find, isThere, requiredIn, imeiOf, ifUsed, repeated, versionTest, lengthTest, errorTest, ofFault, faultTest, applicationTest, commandTest, ofFound, unsupportedTest, repeatedTest, blank, missing, firstAbsent, absentTest, valueTest, imsiDigits, isName, threeBytes, imeiDigits, first, valuesTest, refusal}
+use Rattle.paper.specs.Request.{Refusal, versionOf, messageLength, isError, applicationOf, commandCode, isCommand, avpsOf, viewOf, find, isThere, requiredIn, imeiOf, ifUsed, repeated, versionTest, lengthTest, errorTest, ofFault, faultTest, applicationTest, commandTest, ofFound, unsupportedTest, repeatedTest, blank, missing, firstAbsent, absentTest, valueTest, imsiDigits, isName, threeBytes, imeiDigits, valuesTest, refusal}
 use Rattle.paper.specs.Refusals.{result, wrong}
-use Rattle.paper.specs.ReadBack.{ofKey, octet, tells, isFaulty, unechoed, headOf, emptyOf, firstLacking, firstWrong, failedBy, isShown}
-use Rattle.paper.proofs.OptionLaws.{Holds, holds-of}
+use Rattle.paper.specs.ReadBack.{ofKey, tells, isFaulty, unechoed, headOf, emptyOf, firstLacking, firstWrong, failedBy, isShown}
+use Rattle.paper.proofs.OptionLaws.{holds-of}
 use Rattle.paper.proofs.TestLaws.{or-right}
 use Rattle.paper.proofs.ShownSizes.{view-bare}
-use Rattle.paper.proofs.PassesLaws.{Passes, refusal-passes}
-use Rattle.paper.proofs.PromiseTests.{faultRight, message-right, refusal-otherwise}
+use Rattle.paper.proofs.PromiseTests.{faultRight, message-right}
 use Rattle.paper.proofs.ReadBackAvps.{Own}
 use Rattle.paper.proofs.ReadBackPlaces.{withFailed, ownKey, own-key, ownKeys, required-own}
 
