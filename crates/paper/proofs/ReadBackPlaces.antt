@@ -18,7 +18,7 @@ use Rattle.dictionary.specs.declared.Kind.{Kind}
 use Rattle.dictionary.specs.declared.Kind.the-variants.{Four, Eight, Any, Group, Closed, Unknown}
 use Rattle.dictionary.specs.Rows.{kindOf}
 use Rattle.paper.specs.Avp.{Avp, Writable, flagsOf, bareOf, flagsFor}
-use Rattle.paper.specs.Reader.{Placed, Avps, Faulty}
+use Rattle.paper.specs.Reader.{Placed, Avps, Faulty, mostGroups}
 use Rattle.paper.specs.Find.{firstSecond}
 use Rattle.paper.specs.Widened.{shownOf}
 use Rattle.paper.specs.Profile.{Key, ulr, pur, nor, commands, commandIn, commandOf, userName, originHost, visitedPlmnId, terminalInformation, imei}
@@ -76,7 +76,7 @@ module _ (m : List ℕ) (least : 20 ≤ length m) where
 
   unknown-standing : Standing m (viewOf m .unsupported)
   unfolding viewOf
-  unknown-standing = rw (stretch-rest 20 m) at (unsupported-in kindOf (λ vendor code x. x) 8 m 20 (length m - 20) (omega arith))
+  unknown-standing = rw (stretch-rest 20 m) at (unsupported-in kindOf (λ vendor code x. x) mostGroups m 20 (length m - 20) (omega arith))
 
   second-standing : (keys : List ℕ) (l : Avps) → AllIn m l → Standing m (firstSecond keys [] l)
   second-standing keys l a = firstSecond-each (StandsIn m) (λ p. Unit {0}) keys [] l a
@@ -102,7 +102,7 @@ module _ (m : List ℕ) (least : 20 ≤ length m) where
   fault-shows : (f : Faulty) → viewOf m .fault ≡ some f → f .shown .avp ≡ bareOf (stretch m (f .shown .at) (f .shown .end))
   unfolding viewOf
   fault-shows f e =
-      let s = view-shows kindOf (λ vendor code x. x) 8 20 (drop 20 m) .fault f e in
+      let s = view-shows kindOf (λ vendor code x. x) mostGroups 20 (drop 20 m) .fault f e in
       s .avp ∙ ap bareOf (part-behind (f .shown .at) (f .shown .end - f .shown .at) (s .from))
 
   fault-head : (f : Faulty) → viewOf m .fault ≡ some f → headOf (viewOf m .fault) ≡ some (bareOf (stretch m (f .shown .at) (f .shown .end)))

@@ -14,7 +14,7 @@ use Rattle.dictionary.specs.declared.Kind.{Kind}
 use Rattle.dictionary.specs.declared.Kind.the-variants.{Four, Eight, Any, Group, Closed, Unknown}
 use Rattle.dictionary.specs.Rows.{kindOf}
 use Rattle.paper.specs.Avp.{Avp}
-use Rattle.paper.specs.Reader.{Placed, Avps, Faulty, orElse}
+use Rattle.paper.specs.Reader.{Placed, Avps, Faulty, orElse, mostGroups}
 use Rattle.paper.specs.Widened.{shownOf}
 use Rattle.paper.specs.Profile.{Key, application, commandOf, userName, originHost, visitedPlmnId}
 use Rattle.paper.specs.Request.{Refusal, versionOf, messageLength, isError, applicationOf, commandCode, isCommand, avpsOf, viewOf, find, isThere, requiredIn, imeiOf, ifUsed, repeated, versionTest, lengthTest, errorTest, ofFault, faultTest, applicationTest, commandTest, ofFound, unsupportedTest, repeatedTest, blank, missing, firstAbsent, absentTest, valueTest, imsiDigits, isName, threeBytes, imeiDigits, valuesTest, refusal}
@@ -68,7 +68,7 @@ module _ (m : List ℕ) where
   head-is : (f : Faulty) → viewOf m .fault ≡ some f → headOf (viewOf m .fault) ≡ some (f .shown .avp)
   unfolding headOf viewOf
   head-is f e =
-      let b : f .shown .avp .body ≡ [] = holds-of (λ (g : Faulty). g .shown .avp .body ≡ []) e (view-bare kindOf (λ vendor code x. x) 8 20 (drop 20 m)) in
+      let b : f .shown .avp .body ≡ [] = holds-of (λ (g : Faulty). g .shown .avp .body ≡ []) e (view-bare kindOf (λ vendor code x. x) mostGroups 20 (drop 20 m)) in
       ap headOf e ∙ ap (λ (x : List ℕ). some (record { code = f .shown .avp .code; flags = f .shown .avp .flags; vendor = f .shown .avp .vendor; body = x })) (sym b)
 
   fault-unechoed : (f : Faulty) → viewOf m .fault ≡ some f → (code : ℕ) → unechoed m (result code) ≡ true
