@@ -28,12 +28,12 @@ use Rattle.paper.specs.Refusals.{Said, number, result, experimental, sai
 
 -- ---- what is read in a list of AVPs
 
--- AVPs in order: one by its data; one whose data is exactly one AVP; one by the AVPs inside it
+-- AVPs in order, each with its key, what it holds, and those after it
 pub data Held : Type 0 where
   no-more : Held
-  plain : Key → List ℕ → Held → Held
-  showing : Key → Avp → Held → Held
-  grouped : Key → Held → Held → Held
+  plain : Key → List ℕ → Held → Held  -- by its data
+  showing : Key → Avp → Held → Held  -- its data is exactly one AVP
+  grouped : Key → Held → Held → Held  -- by the AVPs inside it
 
 -- "Flags of an answer's AVPs: M, and V for vendor 10415": M is 64, V is 128
 unfoldable pub octet : Key → ℕ
@@ -43,7 +43,8 @@ octet k = cond (eqb (k .vendor) 10415) 192 64
 abbrev pub ofKey : Key → List ℕ → Avp
 ofKey k x = record { code = k .code; flags = octet k; vendor = k .vendor; body = x }
 
--- what is read is these AVPs, in this order, and no other; of a shown AVP code, flag octet, vendor and data are read
+-- What is read is these AVPs, in this order, and no other: `p` is the AVP that is read first, `rest` what is read behind it, and the data of `p` stands
+-- at `bodyAt p`. Of the one AVP `q` that is shown code, flag octet, vendor and data are read.
 pub data ReadAs : Avps → Held → Type 0 where
   ends : ReadAs whole no-more
   reads : {p : Placed} {rest : Avps} {k : Key} {x : List ℕ} {h : Held} → p .avp ≡ ofKey k x → ReadAs rest h → ReadAs (more p rest) (plain k x h)
