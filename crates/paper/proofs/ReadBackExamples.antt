@@ -2,7 +2,7 @@
 -- Assumes nothing.
 use mathlib.Core.Path.{_≡_, refl}
 use mathlib.Core.List.{List, [], _∷_, _++_}
-use Prim.Native.Nat.{ℕ}
+use Prim.Native.Nat.{ℕ, zero, suc}
 use lib.ListN.{replicate}
 use Rattle.wire.specs.Put.{put}
 use Rattle.paper.specs.Avp.{Avp}
@@ -106,6 +106,15 @@ error-set = refl
 fault : heldBy (ask subscriber (put 24 (79 ∷ 0 ∷ 0 ∷ 7 ∷ []) (ulrFrom b 1004 2))) ≡ told 19 150 (showing (base 279) (received 263 79 0 []) no-more)
 unfolding heldBy
 fault = refl
+
+-- the ninth of Terminal-Informations one in another: its head alone
+nested : ℕ → List ℕ
+nested zero = []
+nested (suc n) = item terminalInformation (nested n)
+
+too-deep : heldBy (ask subscriber (ulrWith b 2 (nested 9))) ≡ told 19 140 (showing (base 279) (received 1401 192 10415 []) no-more)
+unfolding heldBy nested
+too-deep = refl
 
 -- ---- Result-Codes that echo, without Failed-AVP and with it
 
