@@ -118,19 +118,17 @@ pub length-reply : (m host realm : List ℕ) (y : Reply)
     → length (replyAvps m host realm y)
     ≡ cond (y .echo) (echoSize m) 0 + (length (resultItem (y .verdict)) + (12 + (length (item originHost host) + (length (item originRealm realm) + (length (failedItem (y .failed)) + length (y .extra))))))
 unfolding replyAvps
-length-reply m host realm y = let s = length-state in go (y .echo) s
+length-reply m host realm y =
+    let s = length-state in
+    rw (either-part (y .echo) (length (echoed sessionId (find sessionId (avpsOf m)))) (length (eachOf proxyInfo (avpsOf m)))) (simp (length-append, length-if) (omega arith))
   where
-    sid : List ℕ
-    sid = echoed sessionId (find sessionId (avpsOf m))
+    length-if : (b : Bool) (x : List ℕ) → length (cond b x []) ≡ cond b (length x) 0
+    length-if true x = refl
+    length-if false x = refl
 
-    proxies : List ℕ
-    proxies = eachOf proxyInfo (avpsOf m)
-
-    go : (b : Bool) → length (numberItem authSessionState 1) ≡ 12
-        → length (cond b sid [] ++ (resultItem (y .verdict) ++ (numberItem authSessionState 1 ++ (item originHost host ++ (item originRealm realm ++ (failedItem (y .failed) ++ (y .extra ++ cond b proxies [])))))))
-        ≡ cond b (length sid + length proxies) 0 + (length (resultItem (y .verdict)) + (12 + (length (item originHost host) + (length (item originRealm realm) + (length (failedItem (y .failed)) + length (y .extra))))))
-    go true s = simp length-append (omega arith)
-    go false s = simp length-append (omega arith)
+    either-part : (b : Bool) (x z : ℕ) → cond b (x + z) 0 ≡ cond b x 0 + cond b z 0
+    either-part true x z = refl
+    either-part false x z = refl
 
 pub fours-add : (a b : ℕ) → a % 4 ≡ 0 → b % 4 ≡ 0 → (a + b) % 4 ≡ 0
 fours-add a b h k = omega arith

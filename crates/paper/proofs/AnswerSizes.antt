@@ -9,14 +9,14 @@ use native.Mathlib.Omega.{arith}
 use lib.ListN.{length, length-append}
 use lib.Dec.{leb, eqb}
 use borrow.Author.Tests.{leb-true}
-use Rattle.wire.specs.Number.{be, numAt}
+use Rattle.wire.specs.Number.{be}
 use Rattle.wire.specs.Stretch.{nameBytes}
 use Rattle.wire.proofs.ListLaws.{and-true-left, and-true-right}
 use Rattle.paper.specs.Avp.{headSize, padded, flagsFor, vendorField, asReceived, written}
-use Rattle.paper.specs.Layout.{longestAnswer, ambrAt}
+use Rattle.paper.specs.Layout.{longestAnswer}
 use Rattle.paper.specs.Profile.{Key, bandwidthDownlink, bandwidthUplink, subscriptionData, ulaFlags, subscriberStatus, accessRestrictionData, ambr, puaFlags}
 use Rattle.paper.specs.Request.{Refusal, isName, refusal}
-use Rattle.paper.specs.Procedures.{isUlr, isPur, skipSubscriberData, restrictionOf, Done}
+use Rattle.paper.specs.Procedures.{isUlr, isPur, skipSubscriberData, Done}
 use Rattle.paper.specs.Answer as Answer
 use Rattle.paper.specs.Answer.{item, numberItem, restrictionItem, subscriptionOf, subscriptionItem, failedItem, Reply, replyAvps, answer, resultItem}
 use Rattle.paper.specs.Outcome.{refusalReply, experimentalReply, successItems, successReply}
@@ -41,6 +41,9 @@ subscription-takes restriction uplink downlink = go (eqb restriction 0)
     go true = omega arith
     go false = omega arith
 
+record-takes : (r : List ℕ) → length (subscriptionItem r) ≤ 88
+record-takes r = subscription-takes _ _ _
+
 number-takes : (k : Key) (n : ℕ) → length (numberItem k n) ≤ 16
 number-takes k n = let h = headSize-most (flagsFor (k .vendor) true) in rw (length-number k n) (omega arith)
 
@@ -48,7 +51,7 @@ number-takes k n = let h = headSize-most (flagsFor (k .vendor) true) in rw (leng
 ulr-items : (m r : List ℕ) → length (numberItem ulaFlags 1 ++ cond (skipSubscriberData m) [] (subscriptionItem r)) ≤ 104
 ulr-items m r =
     let u = number-takes ulaFlags 1 in
-    let s = subscription-takes (restrictionOf r) (numAt 4 r ambrAt) (numAt 4 r (ambrAt + 4)) in
+    let s = record-takes r in
     cond-cases (λ x. length (numberItem ulaFlags 1 ++ x) ≤ 104) (skipSubscriberData m) {x = []} {y = subscriptionItem r} (λ e. rw length-append (omega arith)) (λ e. rw length-append (omega arith))
 
 pur-items : (m : List ℕ) (n : ℕ) → length (cond (isPur m) (numberItem puaFlags n) []) ≤ 16

@@ -51,6 +51,15 @@ pub mod PromiseTests
 pub mod PromiseUlr
 pub mod PromiseUntouched
 pub mod PromiseWorked
+pub mod ReadBack
+pub mod ReadBackAvps
+pub mod ReadBackCodes
+mod ReadBackExamples
+pub mod ReadBackFind
+pub mod ReadBackHeader
+pub mod ReadBackParts
+pub mod ReadBackPlaces
+pub mod ReadBackRefusals
 pub mod ReaderExamples
 pub mod RecordLaws
 mod RefusalExamples

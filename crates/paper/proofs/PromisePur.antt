@@ -1,21 +1,19 @@
 -- Promise: "PUR: [..]", sentence by sentence, over the record of the request's IMSI, the cancel buffer and PUA-Flags.
 -- Assumes nothing.
-use mathlib.Core.Path.{_≡_, refl, sym, ap, _∙_, subst}
+use mathlib.Core.Path.{_≡_, refl, sym, ap, _∙_}
 use mathlib.Core.Logic.{_≢_}
 use mathlib.Core.Bool.{Bool, true, false, cond, not, or-true, false≢true}
-use mathlib.Core.Option.{Option}
+use mathlib.Core.Option.{some}
 use mathlib.Core.List.{List, []}
 use Prim.Native.Nat.{ℕ, _+_, _<_}
 use native.Mathlib.Omega.{arith}
 use lib.Dec.{eqb}
 use lib.ListN.{length}
 use borrow.Author.Tests.{eqb-true}
-use Rattle.wire.specs.Number.{be}
 use Rattle.wire.specs.Stretch.{same}
 use Rattle.wire.proofs.ListLaws.{and-true-both, and-false-left, and-false-right}
 use Rattle.wire.proofs.StretchLaws.{same-equal, same-differ}
 use Rattle.paper.specs.Avp.{bit}
-use Rattle.paper.specs.Reader.{Placed}
 use Rattle.paper.specs.Layout.{recordSize}
 use Rattle.paper.specs.Profile.{purFlags, puaFlags, ulr, pur}
 use Rattle.paper.specs.Table.{recordRight, recordOf, countOf, valid, Slot, mme, sgsn, nameOf}
@@ -23,6 +21,7 @@ use Rattle.paper.specs.Request.{commandCode, avpsOf, find, valueOf, numb
 use Rattle.paper.specs.Procedures.{Done, sender, isUlr, isPur, sameName, isSender, registered, purges, purgedIf, purged, purgeUe, carriedOut}
 use Rattle.paper.specs.Outcome.{Lent}
 use Rattle.paper.specs.Read.{before, after, purgedIn, imeiIn, listedBy, answerOf}
+use Rattle.paper.specs.ReadBack.{a-number}
 use Rattle.paper.specs.Promises.{Accepted, Kept, Set, Unset, Purges, PurgesUe}
 use Rattle.paper.proofs.FieldLaws.{Node, the-mme, the-sgsn}
 use Rattle.paper.proofs.StoreLaws.{right-valid, long-valid}
@@ -32,7 +31,8 @@ use Rattle.paper.proofs.AcceptedLaws as AcceptedLaws
 use Rattle.paper.proofs.PromiseFields.{Other, sgsn-of-mme, mme-of-sgsn, purge-table}
 use Rattle.paper.proofs.PromiseEntries.{registered-named}
 use Rattle.paper.proofs.PromiseSuccess.{success, inside, before-is, after-is, listed-is}
-use Rattle.paper.proofs.PromiseAnswer.{Found, number-found, there-found, pur-answered}
+use Rattle.paper.proofs.PromiseAnswer.{pur-answered}
+use Rattle.paper.proofs.ReadBackFind.{Agrees, number-read, there-read}
 use Rattle.paper.proofs.ProcedureLaws.{purges-registered}
 
 -- ---- when a node is purged
@@ -184,8 +184,8 @@ pur-purges l a p =
     let c = pur-carried m i t p in
     let shown = shownFlags (inMme m ok i t e h) (inSgsn m ok i t e h) in
     let bits = two-bits (inMme m ok i t e h) (inSgsn m ok i t e h) in
-    let found : Found (be 4 shown) (find puaFlags (avpsOf (answerOf l))) = ap-found c (pur-answered l a p) in
-    let n : numberOf puaFlags (answerOf l) ≡ shown = number-found shown (omega arith) found in
+    let found : Agrees (find puaFlags (avpsOf (answerOf l))) (some (a-number puaFlags shown)) = rw c at (pur-answered l a p) in
+    let n : numberOf puaFlags (answerOf l) ≡ shown = number-read puaFlags shown (find puaFlags (avpsOf (answerOf l))) (omega arith) found in
     let none-listed : listedBy l ≡ [] = listed-is l s (rw c tt) ∙ ap (λ (d : Done). d .entries) c in
     let was : before l ≡ recordOf t i = before-is l s in
     let is : after l ≡ purgedRecord m ok i t e h = after-is l s ∙ ap (λ (d : Done). recordOf (d .table) i) c in
@@ -193,12 +193,9 @@ pur-purges l a p =
     (record {
       in-mme = rw n (mme-purges m ok i t e h);
       in-sgsn = rw n (sgsn-purges m ok i t e h);
-      flags-there = there-found found;
+      flags-there = there-read (a-number puaFlags shown) (find puaFlags (avpsOf (answerOf l))) found;
       two-bits = rw n (bits .few);
       none-listed = refl;
       imei-kept = second-purge m ok i t e h .imei-same ∙ first-purge m ok i t e h .imei-same;
       no-match = stranger-leaves m ok i t e h;
     })
-  where
-    ap-found : {d d′ : Done} {o : Option Placed} → d ≡ d′ → Found (be 4 (d .purges)) o → Found (be 4 (d′ .purges)) o
-    ap-found {o = o} q f = subst (λ (x : Done). Found (be 4 (x .purges)) o) q f

@@ -64,7 +64,7 @@ refused-absent (k ∷ ks) l d = go (isThere (find k l)) (refused-absent ks l d)
 
 -- ---- a fault of the visit is 5014 or 5004
 
-faultRight : Option Faulty → Bool
+unfoldable pub faultRight : Option Faulty → Bool
 faultRight none = true
 faultRight (some f) = eqb (f .code) 5014 || eqb (f .code) 5004
 
@@ -103,7 +103,7 @@ module _ (kind : ℕ → ℕ → Kind) (seen : ℕ → ℕ → List ℕ → List
       kind-right _ _ (group (each (viewAvp kind seen left) (avps (bodyAt p) (p .avp .body))) p) p
       (each-right (viewAvp kind seen left) (avp-right left) (avps (bodyAt p) (p .avp .body)))
 
-message-right : (m : List ℕ) → faultRight (viewOf m .fault) ≡ true
+pub message-right : (m : List ℕ) → faultRight (viewOf m .fault) ≡ true
 unfolding viewOf view
 message-right m = each-right _ (avp-right _ _ mostGroups) _
 

@@ -1,7 +1,7 @@
 -- What each refusal adds to an answer, Failed-AVP and what is echoed, is bounded by the request's length.
 -- Assumes nothing.
 use mathlib.Core.Path.{_≡_, refl}
-use mathlib.Core.Bool.{Bool, true, false, cond, _&&_}
+use mathlib.Core.Bool.{Bool, false, cond, _&&_}
 use mathlib.Core.Option.{Option, none, some}
 use mathlib.Core.List.{List, [], _∷_}
 use Prim.Native.Nat.{ℕ, _+_, _%_, _≤_}
@@ -11,7 +11,7 @@ use lib.Dec.{eqb}
 use Rattle.dictionary.specs.declared.Kind.{Kind}
 use Rattle.dictionary.specs.declared.Kind.the-variants.{Four, Eight, Any, Group, Closed, Unknown}
 use Rattle.dictionary.specs.Rows.{keyOf, kindOf}
-use Rattle.paper.specs.Avp.{Avp, padded, sizeOf, flagsFor}
+use Rattle.paper.specs.Avp.{Avp, padded, sizeOf}
 use Rattle.paper.specs.Reader.{Placed, Faulty, mostGroups}
 use Rattle.paper.specs.Find.{member}
 use Rattle.paper.specs.Profile.{Key, application, commandOf, originHost, userName, visitedPlmnId}
@@ -32,7 +32,7 @@ head-takes a e = let h = headSize-most (a .flags) in omega arith
 
 missing-takes : (k : Key) → sizeOf (missing k) ≤ 16
 unfolding missing blank sizeOf padded
-missing-takes k = let h = headSize-most (flagsFor (k .vendor) true) in let b = blank-takes (kindOf (k .vendor) (k .code)) in omega arith
+missing-takes k = let h = headSize-most (missing k .flags) in let b = blank-takes (kindOf (k .vendor) (k .code)) in omega arith
   where
     blank-takes : (d : Kind) → length (blank d) ≤ 4
     blank-takes Four = omega arith

@@ -110,10 +110,10 @@ vendor-for vendor mandatory e = go (eqb vendor 0) refl (sym (hasV-for vendor man
     go false q r = absurd (false≢true (sym r))
 
 module _ (vendor code : ℕ) (mandatory : Bool) (body : List ℕ) (v : vendor < 256 ^ 4) (c : code < 256 ^ 4) (f : headSize (flagsFor vendor mandatory) + length body < 256 ^ 3) where
-  abbrev forKey : Avp
+  abbrev pub forKey : Avp
   forKey = record { code = code; flags = flagsFor vendor mandatory; vendor = vendor; body = body }
 
-  for-key-writable : Writable forKey
+  pub for-key-writable : Writable forKey
   for-key-writable = record { code = c; vendor = v; own = vendor-for vendor mandatory; fits = f }
 
   pub one-written-for : OneAvp (written vendor code mandatory body)
@@ -136,7 +136,7 @@ pub vendor-without-V : (s : List ℕ) → hasV (flagsOf s) ≡ false → vendorO
 unfolding vendorOf
 vendor-without-V s e = rw e
 
-vendor-fits : (s : List ℕ) → Bytes s → vendorOf s < 256 ^ 4
+pub vendor-fits : (s : List ℕ) → Bytes s → vendorOf s < 256 ^ 4
 unfolding vendorOf
 vendor-fits s b = go (hasV (flagsOf s))
   where

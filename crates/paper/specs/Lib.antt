@@ -14,6 +14,7 @@ pub mod Procedures
 pub mod Profile
 pub mod Promises
 pub mod Read
+pub mod ReadBack
 pub mod Reader
 pub mod Refusals
 pub mod Request
