@@ -106,18 +106,18 @@ module _ (l : Lent) (t : List ℕ) (es : List Entry) (y : Reply) (k : Answers l 
       ∙ ap length (entries-back es (l .cancel) (k .readable) (k .few))
       ∙ sym (ap (λ (o : Outcome). o .listed) (k .comes))
 
-  answer-reads : ReadBack l (said (outcome l)) (answerOf l)
+  answer-reads : ReadBack l (outcome l)
   answer-reads =
-      rw its-said
-      (record {
-        header = its-header;
+      let s = toldBy (y .verdict) in
+      record {
+        header = rw its-said its-header;
         no-fault = visited;
-        holding = held;
-        failed = failed-read (l .request) (k .passed .least) (toldBy (y .verdict)) (rw (k .promised .failed) at (k .promised .there));
+        holding = rw its-said held;
+        failed = rw its-said (failed-read (l .request) (k .passed .least) s (rw (k .promised .failed) at (k .promised .there)));
         size = its-size;
-        codes = codes-read (l .request) (l .host) (l .realm) (before l) (answerOf l) (toldBy (y .verdict)) (subst (λ (s : Said). proper s ≡ true) its-said (told-proper l)) held;
+        codes = rw its-said (codes-read (l .request) (l .host) (l .realm) (before l) (answerOf l) s (subst (λ (s : Said). proper s ≡ true) its-said (told-proper l)) held);
         listed = its-list;
-      })
+      }
 
 -- ---- each kind of outcome
 
@@ -184,7 +184,7 @@ pub accepted-holds : (l : Lent) → Accepted l → ReadAs (avpsOf (answerOf l)) 
 unfolding successReply saidBy
 accepted-holds l a = held l _ _ _ (success-answers l (success l a))
 
-by-comes : (l : Lent) → Bytes (l .request) → (o : Outcome) → Comes l o → outcome l ≡ o → (o .verdict ≡ none → ⊥) → ReadBack l (said (outcome l)) (answerOf l)
+by-comes : (l : Lent) → Bytes (l .request) → (o : Outcome) → Comes l o → outcome l ≡ o → (o .verdict ≡ none → ⊥) → ReadBack l (outcome l)
 unfolding silent
 by-comes l b o (silence n) q a = absurd (a refl)
 by-comes l b o (refused p x e) q a = answer-reads l _ _ _ (refused-answers l b p x e q)

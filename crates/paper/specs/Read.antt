@@ -17,7 +17,7 @@ use Rattle.paper.specs.Table.{Slot, nameOf, bitAt}
 use Rattle.paper.specs.Request.{find, inside, avpsOf, numberOf}
 use Rattle.paper.specs.Procedures.{Entry, imsiField}
 use Rattle.paper.specs.Clerks.{recordWith}
-use Rattle.paper.specs.Outcome.{Lent, outcome}
+use Rattle.paper.specs.Outcome.{Lent, Outcome, outcome}
 
 -- ---- the record of the request's IMSI
 
@@ -46,8 +46,11 @@ unfoldable pub entriesIn : ℕ → ℕ → List ℕ → List Entry
 entriesIn zero at c = []
 entriesIn (suc n) at c = cond (eqb (getD c at 0) 0) [] (entryAt at c ∷ entriesIn n (at + entrySize) c)
 
+abbrev pub listedIn : Outcome → List Entry
+listedIn o = entriesIn mostEntries 0 (o .cancel)
+
 abbrev pub listedBy : Lent → List Entry
-listedBy l = entriesIn mostEntries 0 (outcome l .cancel)
+listedBy l = listedIn (outcome l)
 
 -- the entries of one node, and the entry that lists a node of the record with a type
 unfoldable pub ofNode : Slot → List Entry → List Entry
@@ -59,8 +62,11 @@ listing slot type r = record { node = slot .number; type = type; name = nameOf s
 
 -- ---- the answer
 
+abbrev pub answerIn : Outcome → List ℕ
+answerIn o = take (o .size) (o .answer)
+
 abbrev pub answerOf : Lent → List ℕ
-answerOf l = take (outcome l .size) (outcome l .answer)
+answerOf l = answerIn (outcome l)
 
 -- Result-Code and Experimental-Result-Code as the answer's bytes have them, 0 for the one that it does not hold
 unfoldable pub codesIn : List ℕ → List ℕ

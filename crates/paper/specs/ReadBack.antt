@@ -22,8 +22,8 @@ use Rattle.paper.specs.Procedures.{sender, isUlr, isPur, skipSubscriberD
 use Rattle.paper.specs.Widened.{shownOf}
 use Rattle.paper.specs.Shown.{stretch}
 use Rattle.paper.specs.ShownIn.{Standing}
-use Rattle.paper.specs.Outcome.{Lent, outcome}
-use Rattle.paper.specs.Read.{before, answerOf, codesIn, listedBy}
+use Rattle.paper.specs.Outcome.{Lent, Outcome, outcome}
+use Rattle.paper.specs.Read.{before, answerIn, codesIn, listedIn}
 use Rattle.paper.specs.Refusals.{Said, number, result, experimental, said, wrong}
 
 -- ---- what is read in a list of AVPs
@@ -214,17 +214,17 @@ codesTold (number n) = 0 ∷ 0 ∷ []
 codesTold (result code) = code ∷ 0 ∷ []
 codesTold (experimental code) = 0 ∷ code ∷ []
 
--- the answer `a`, read by our message reader
-pub record ReadBack (l : Lent) (s : Said) (a : List ℕ) : Type 0 where
-  pub header : HeaderRead (l .request) a s
-  pub no-fault : told (viewOf a) ≡ Clean
-  pub holding : ReadAs (avpsOf a) (holds (l .request) (l .host) (l .realm) (before l) s)
-  pub failed : FailedRead (l .request) s
+-- the answer that the outcome `o` of what was lent left, read by our message reader
+pub record ReadBack (l : Lent) (o : Outcome) : Type 0 where
+  pub header : HeaderRead (l .request) (answerIn o) (said o)
+  pub no-fault : told (viewOf (answerIn o)) ≡ Clean
+  pub holding : ReadAs (avpsOf (answerIn o)) (holds (l .request) (l .host) (l .realm) (before l) (said o))
+  pub failed : FailedRead (l .request) (said o)
   -- the size, the code and the number of entries that the outcome names are those read
-  pub size : length a ≡ outcome l .size
-  pub codes : codesIn a ≡ codesTold s
-  pub listed : length (listedBy l) ≡ outcome l .listed
+  pub size : length (answerIn o) ≡ o .size
+  pub codes : codesIn (answerIn o) ≡ codesTold (said o)
+  pub listed : length (listedIn o) ≡ o .listed
 
 -- every answer, whatever was lent: the number is 0 where there is one
 abbrev pub AnswersReadBack : Type 0
-AnswersReadBack = (l : Lent) → Bytes (l .request) → outcome l .number ≡ 0 → ReadBack l (said (outcome l)) (answerOf l)
+AnswersReadBack = (l : Lent) → Bytes (l .request) → outcome l .number ≡ 0 → ReadBack l (outcome l)

@@ -3,4 +3,5 @@ pub mod Contracts
 pub mod Done
 pub mod Newer
 pub mod Once
+pub mod ReadBack
 pub mod Runs

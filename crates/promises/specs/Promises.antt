@@ -11,6 +11,7 @@ use Rattle.wire.specs.Number.{Bytes}
 use Rattle.dictionary.specs.declared.Kind.the-variants.{Unknown}
 use Rattle.dictionary.specs.Rows.{kindOf}
 use Rattle.paper.specs.declared.Verdict.the-variants.{Base}
+use Rattle.paper.specs.declared.Visit.the-variants.{Clean}
 use Rattle.paper.specs.Attach.{tableAfter, attachAnswer, attachCancel, attachLent}
 use Rattle.paper.specs.Avp.{Avp, codeOf, vendorOf, flagsOf, avpOf, hasM}
 use Rattle.paper.specs.Clerks.{recordWith, standingOf, FirstThatHolds, Alters}
@@ -20,6 +21,7 @@ use Rattle.paper.specs.Newer.{WidenedRequest, asking, Accepting, Accepted, unsu
 use Rattle.paper.specs.Procedures.{Entry, imsiField, isUlr, isPur, isNor, onS6a}
 use Rattle.paper.specs.Promises.{UpdatesOnS6a, UpdatesOnS6d, AnswersUlr, PurgesUe, Notifies}
 use Rattle.paper.specs.Read.{entriesIn}
+use Rattle.paper.specs.ReadBack.{ReadBack}
 use Rattle.paper.specs.Refusals.{Said, number, result, experimental, said, refusals, First}
 use Rattle.paper.specs.Request.{viewOf}
 use Rattle.paper.specs.Run as Run
@@ -27,6 +29,7 @@ use Rattle.paper.specs.Run.{Step, asks, corrects, Came, asked, put-right, accep
 use Rattle.paper.specs.Table.{valid, changeOf}
 use Rattle.paper.specs.Untouched.{OnlyItsRecord, NoRecord, NoByte}
 use Rattle.paper.specs.Widened.{OneAvp, Inserted, Clear}
+use Rattle.reader.specs.Message.{messageOf}
 use Rattle.dymosaw.specs.declared.serve.Served.the-variants.{Answered}
 use Rattle.dymosaw.specs.Serve.{saidBy}
 use Rattle.promises.specs.Calls.{ServeCall, RequestCall, CorrectCall, EntryCall, Call, Correction, SeenByC, SameServed, SameRequested, SameCorrected, SameEntered}
@@ -157,6 +160,16 @@ abbrev pub SameAsSeen : Type 0
 SameAsSeen =
     (imsi t u : List ℕ) (cs : Calls t u) → changeOf (recordWith imsi u) ≡ changeOf (recordWith imsi t) → acceptedFor imsi cs < 2 ^ 32
     → (acceptedFor imsi cs ≡ 0) × (standingOf (recordWith imsi u) ≡ standingOf (recordWith imsi t))
+
+-- ---- 7. Answers read back
+
+-- every answer, read AVP by AVP, holds what 01's section "The answer" says
+abbrev pub AnswersReadBack : Type 0
+AnswersReadBack = (c : Call) → Bytes (c .lent .request) → c .left .number ≡ 0 → ReadBack (c .lent) (c .left)
+
+-- and `read_message`, the public reader, tells of no fault in it and of no unknown AVP with M
+abbrev pub AnswersVisited : Type 0
+AnswersVisited = (c : Call) → Bytes (c .lent .request) → c .left .number ≡ 0 → messageOf (answerOf c) .visit ≡ Clean
 
 -- ---- 8. Nothing else is touched
 

@@ -13,7 +13,7 @@ use Rattle.avp.specs.declared.cursor.Avp.{Avp}
 use Rattle.avp.specs.Step.{avpAt}
 use Rattle.avp.specs.Found.{Inside}
 
--- what is told of a stretch does not depend on what a command sees of an AVP's data (`told-seen`); here it sees all of it
+-- what is told of a stretch does not depend on what a command sees of an AVP's data (`view-alike`); here it sees all of it
 abbrev pub allSeen : ℕ → ℕ → List ℕ → List ℕ
 allSeen vendor code body = body
 
