@@ -49,7 +49,7 @@ ghost use Rattle.procedures.specs.Values.{Held};
 ghost use Rattle.request.specs.Accepted.{Accepts};
 ghost use Rattle.dymosaw.specs.Serve.{lent, cameTo, Is, silentNumber, entryAt, entriesIn, Ready};
 
-const LEAST_ANSWER: usize = 4352;
+pub const LEAST_ANSWER: usize = 4352;
 
 const ENTRY_SIZE: usize = 68;
 
