@@ -22,7 +22,7 @@ mod tests;
 use dictionary::Dictionary;
 use std::io::{self, BufReader, BufWriter, Read, StdinLock, Write};
 
-const USAGE: &str = "usage: second cases | desk | read | gen SEED COUNT | corrections SEED COUNT | runs SEED RUNS STEPS | tally | named FILE | expected FILE";
+const USAGE: &str = "usage: second cases | desk | read | gen SEED COUNT | corrections SEED COUNT | runs SEED RUNS STEPS | desks SEED | tally | named FILE | expected FILE";
 
 fn main() {
     let words: Vec<String> = std::env::args().skip(1).collect();
@@ -52,6 +52,7 @@ fn run(dictionary: &Dictionary, words: &[&str]) -> io::Result<i32> {
         ["gen", seed, count] => gen::run(dictionary, whole(seed)?, whole(count)?, &mut out)?,
         ["corrections", seed, count] => gen::corrections(whole(seed)?, whole(count)?, &mut out)?,
         ["runs", seed, runs, steps] => gen::runs(dictionary, whole(seed)?, whole(runs)?, whole(steps)?, &mut out)?,
+        ["desks", seed] => gen::desks(dictionary, whole(seed)?, &mut out)?,
         ["tally"] => return Ok(tally::run(dictionary, &mut input)),
         ["named", file] => named::emit(dictionary, file)?,
         ["expected", file] => return Ok(named::compare(dictionary, file, &mut input)),
