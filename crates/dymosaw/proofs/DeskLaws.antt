@@ -3,14 +3,15 @@
 use mathlib.Core.Path.{_≡_, refl, sym, ap, _∙_, subst}
 use mathlib.Core.Bool.{Bool, true, false, cond, _&&_}
 use mathlib.Core.List.{List, _++_}
-use Prim.Native.Nat.{ℕ, _+_, _-_, _≤_, _<_}
+use Prim.Native.Nat.{ℕ, _+_, _-_, _%_, _^_, _≤_, _<_}
+use native.Mathlib.Nat.{zero-add}
 use native.Mathlib.Omega.{arith}
-use lib.ListN.{length, take, drop, getD}
+use lib.ListN.{length, take, drop, getD, length-drop}
 use lib.Seq.{take-all, length-take-le}
 use lib.Dec.{leb, ltb, eqb}
 use borrow.Author.Tests.{eq-eqb, ne-eqb, lt-ltb, le-ltb, leb-true, ltb-true, ltb-false, eqb-true}
 use Rattle.wire.specs.Number.{numAt}
-use Rattle.wire.specs.Put.{put}
+use Rattle.wire.specs.Put.{put, Wrote}
 use Rattle.wire.proofs.ListLaws.{and-true-left, and-true-right}
 use Rattle.wire.proofs.PutLaws.{put-same}
 use Rattle.paper.specs.declared.Line.{Line}
@@ -21,15 +22,16 @@ use Rattle.paper.specs.declared.Verdict.the-variants.{Base, Experimental}
 use Rattle.paper.specs.Table.{valid}
 use Rattle.paper.specs.Correction.{Corrected, corrected}
 use Rattle.paper.specs.Outcome.{Outcome, outcome}
-use Rattle.paper.specs.Desk.{Turn, plain, deskLent, answerLine, answerTurn, tableTurn, requestTurn, correctionTurn, lastTurn, sizeRight, frameRight, restSize, byFrameKind, turn, deskHead, mostFrame}
+use Rattle.paper.specs.Desk.{Turn, plain, deskLent, answerLine, answerTurn, tableTurn, requestTurn, correctionTurn, lastTurn, sizeRight, frameRight, restSize, byFrameKind, turn, deskHead, mostFrame, lineBytes}
 use Rattle.paper.proofs.TableLaws.{valid-parts}
+use Rattle.dymosaw.specs.declared.desk.Desk.{Desk}
 use Rattle.dymosaw.specs.declared.desk.Turned.{Turned}
 use Rattle.dymosaw.specs.declared.serve.Served.{Served}
 use Rattle.dymosaw.specs.declared.serve.Served.the-variants.{Refused, Answered}
 use Rattle.dymosaw.specs.Serve.{numberOf, sizeOf, saidBy, listedBy}
 use Rattle.dymosaw.specs.Serve as Serve
 use Rattle.dymosaw.specs.Entry as Entry
-use Rattle.dymosaw.specs.Desk.{tableRoom, turnOf, Made}
+use Rattle.dymosaw.specs.Desk.{tableRoom, turnOf, tableIn, Made, Told}
 
 -- ---- the buffer
 
@@ -149,9 +151,12 @@ frame-short f h = go (frameRight f) refl
     go false e = refl
     go true e = let long = frame-long f e in absurd (omega arith)
 
-pub turn-right : (t f : List ℕ) → frameRight f ≡ true → byFrameKind (getD f 5 0) t (drop deskHead f) ≡ turn t f
+-- the part of a frame behind its head, as code lends it
+pub turn-right : (t f : List ℕ) → frameRight f ≡ true → byFrameKind (getD f 5 0) t (take (length f - deskHead) (drop deskHead f)) ≡ turn t f
 unfolding turn
-turn-right t f e = rw e
+turn-right t f e =
+    let l = length-drop deskHead f in
+    ap (byFrameKind (getD f 5 0) t) (take-all (length f - deskHead) (drop deskHead f) (omega arith)) ∙ rw e
 
 pub turn-wrong : (t f : List ℕ) → frameRight f ≡ false → lastTurn t ≡ turn t f
 unfolding turn
@@ -174,3 +179,20 @@ rest-wrong h e p s = rw (le-ltb (length h) 4 e, ← p, s)
 -- a right size leaves room for the length field, and is no larger than the largest frame
 pub size-within : (n : ℕ) → sizeRight n ≡ true → (4 ≤ n) × (4 + (n - 4) ≤ mostFrame)
 size-within n e = let a = size-least n e in let b = size-most n e in (omega arith, omega arith)
+
+-- ---- the step
+
+-- a turn that was made, on the table by another name for its size, and its line
+pub told : (f : List ℕ) {b b′ l l′ t : List ℕ} {d : Desk} {r : Turned} {size next : ℕ} → t ≡ tableIn d b → Made (turn t f) b b′ r → Wrote l 0 (lineBytes (d .number) (r .line)) l′ size
+    → next ≡ (d .number + 1) % 2 ^ 64
+    → Told (turn (tableIn d b) f) d b l b′ l′ (record { desk = record { used = r .used; number = next }; line = size; «goes_on» = r .«goes_on» })
+told f {b = b} {l = l} {d = d} e m w n =
+    let u = made-as (ap (λ (x : List ℕ). turn x f) e) m in
+    record {
+      used = u .used;
+      number = n;
+      buffer = u .buffer;
+      size = w .next ∙ zero-add (length (lineBytes (d .number) _)) ∙ ap (λ (x : Line). length (lineBytes (d .number) x)) (u .line);
+      line = w .made ∙ ap (λ (x : Line). put 0 (lineBytes (d .number) x) l) (u .line);
+      goesOn = u .goesOn;
+    }

@@ -22,7 +22,10 @@ tableRoom = recordAt mostRecords
 abbrev pub lineRoom : ℕ
 lineRoom = 77
 
--- a turn by its parts
+-- a line and a turn by their parts
+abbrev pub lineOf : ℕ → Bool → ℕ → ℕ → ℕ → Line
+lineOf letter experimental code size listed = record { letter = letter; experimental = experimental; code = code; size = size; listed = listed }
+
 abbrev pub turnOf : Line → List ℕ → Bool → Turn
 turnOf line table goesOn = record { line = line; table = table; goesOn = goesOn }
 

@@ -7,6 +7,7 @@ ghost use lib.ListN.{length};
 ghost use Rattle.wire.specs.Put.{Wrote};
 ghost use Rattle.paper.specs.Desk.{decimal, spaced, codeBytes, lineBytes};
 ghost use Rattle.paper.specs.Desk.{plain as Desk·plain};
+ghost use Rattle.dymosaw.specs.Desk.{lineRoom, lineOf};
 
 pub fn put_byte(out: &mut [u8], at: usize, b: u8) -> usize
     requires { ⌜ at < length (now out) ⌝ }
@@ -49,18 +50,44 @@ pub fn put_code(out: &mut [u8], at: usize, experimental: bool, code: u32) -> usi
     put_decimal(out, next, code as u64)
 }
 
-// The line of a frame with this number.
-pub fn put_line(out: &mut [u8], number: u64, line: Line) -> usize
-    requires { ⌜ length (lineBytes number line) ≤ length (now out) ⌝ }
-    ensures { λ r. ⌜ Wrote (now (out .entry)) 0 (lineBytes number line) (now (out .exit)) r ⌝ }
+// The parts of a line one after another, as plain numbers: every such line fits.
+pub fn put_parts(
+    out: &mut [u8],
+    number: u64,
+    letter: u8,
+    experimental: bool,
+    code: u32,
+    size: usize,
+    listed: usize,
+) -> usize
+    requires { ⌜ lineRoom ≤ length (now out) ⌝ }
+    ensures { λ r. ⌜ Wrote (now (out .entry)) 0 (lineBytes number (lineOf letter experimental code size listed)) (now (out .exit)) r ⌝ }
+    ensures { λ r. ⌜ r ≤ lineRoom ⌝ }
 {
     let space = put_decimal(out, 0, number);
-    let letter = put_byte(out, space, b' ');
-    let code = put_byte(out, letter, line.letter);
-    let size = put_code(out, code, line.experimental, line.code);
-    let listed = put_spaced(out, size, line.size as u64);
-    let end = put_spaced(out, listed, line.listed as u64);
+    let letter_at = put_byte(out, space, b' ');
+    let code_at = put_byte(out, letter_at, letter);
+    let size_at = put_code(out, code_at, experimental, code);
+    let listed_at = put_spaced(out, size_at, size as u64);
+    let end = put_spaced(out, listed_at, listed as u64);
     put_byte(out, end, b'\n')
+}
+
+// The line of a frame with this number.
+pub fn put_line(out: &mut [u8], number: u64, line: Line) -> usize
+    requires { ⌜ lineRoom ≤ length (now out) ⌝ }
+    ensures { λ r. ⌜ Wrote (now (out .entry)) 0 (lineBytes number line) (now (out .exit)) r ⌝ }
+    ensures { λ r. ⌜ r ≤ lineRoom ⌝ }
+{
+    put_parts(
+        out,
+        number,
+        line.letter,
+        line.experimental,
+        line.code,
+        line.size,
+        line.listed,
+    )
 }
 
 // A line of a frame that is not answered.

@@ -1,21 +1,30 @@
--- `put_line` meets its contract: the parts of a line one after another.
+-- `put_parts` meets its contract: the parts of a line one after another.
 -- Assumes nothing.
 use mathlib.Core.Path.{_≡_}
 use Prim.Native.Nat.{_+_, _≤_}
 use native.Mathlib.Omega.{arith}
 use lib.ListN.{length}
+use Rattle.wire.specs.Put.{Wrote}
 use Rattle.wire.proofs.PutLaws.{wrote-then}
 use Rattle.paper.specs.Desk.{decimal, codeBytes, spaced, lineBytes}
-use Rattle.dymosaw.proofs.DecimalLaws.{line-length}
+use Rattle.paper.specs.declared.Line.{Line}
+use Rattle.dymosaw.specs.Desk.{lineRoom, lineOf}
+use Rattle.dymosaw.proofs.DecimalLaws.{line-length, line-fits}
 use borrow.Author.Needs.{needs}
-use Rattle.dymosaw.proofs.line.put_line.Statement.{statement}
-use Rattle.dymosaw.proofs.line.put_line.Tie as tie
+use Rattle.dymosaw.proofs.line.put_parts.Statement.{statement}
+use Rattle.dymosaw.proofs.line.put_parts.Tie as tie
 
--- the `requires`, part by part
+abbrev parts : tie.Start → Line
+parts s = lineOf (s .args .letter) (s .args .experimental) (s .args .code) (s .args .size) (s .args .listed)
+
+-- the room that the parts take
+taken : (s : tie.Start) → length (lineBytes (s .args .number) (parts s)) ≤ lineRoom
+taken s = line-fits (s .args .number) (parts s) (s .fits .number .fits) (s .fits .code .fits) (s .fits .size .fits) (s .fits .listed .fits)
+
 room : (s : tie.Start)
-    → length (decimal (s .args .number)) + (2 + (length (codeBytes (s .args .line .experimental) (s .args .line .code)) + (length (spaced (s .args .line .size)) + (length (spaced (s .args .line .listed)) + 1))))
+    → length (decimal (s .args .number)) + (2 + (length (codeBytes (s .args .experimental) (s .args .code)) + (length (spaced (s .args .size)) + (length (spaced (s .args .listed)) + 1))))
     ≤ length (s .args .out .now)
-room s = let l = line-length (s .args .number) (s .args .line) in let p = s .pre in omega arith
+room s = let l = line-length (s .args .number) (parts s) in let t = taken s in let p = s .pre in omega arith
 
 -- from each part to the one before it
 abbrev start : tie.After-put-decimal → tie.Start
@@ -87,10 +96,9 @@ put-byte-requires-3 c κs =
 same-length : tie.Need-same-length
 same-length c = search needs
 
-returns : tie.Need-returns
+written : (c : tie.After-put-byte3) → Wrote (start (to-number (to-space (to-letter (to-code (to-size (c .before .before .before .before)))))) .args .out .now) 0 (lineBytes (start (to-number (to-space (to-letter (to-code (to-size (c .before .before .before .before)))))) .args .number) (parts (start (to-number (to-space (to-letter (to-code (to-size (c .before .before .before .before))))))))) (c .put-byte3 .last .0) (c .put-byte3 .result)
 unfolding lineBytes
-returns c =
-    let e = c .before .before in
+written e =
     let y = e .before .before .before .before in
     let z = to-size y in
     let d = to-code z in
@@ -104,8 +112,14 @@ returns c =
     (wrote-then (omega arith) (d .put-code .ensures)
     (wrote-then (omega arith) (z .put-spaced .ensures) (wrote-then (omega arith) (y .put-spaced2 .ensures) (e .put-byte3 .ensures))))))
 
-pub put-line-spec : {M : Type 1} → statement M
-put-line-spec =
+returns : tie.Need-returns
+returns c =
+    let e = c .before .before in
+    let w = written e in
+    (w, omega (arith, taken (start (to-number (to-space (to-letter (to-code (to-size (e .before .before .before .before)))))))))
+
+pub put-parts-spec : {M : Type 1} → statement M
+put-parts-spec =
     tie.close
     (tie.spec
     put-decimal-requires
