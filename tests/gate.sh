@@ -31,6 +31,8 @@ run_test corrections "20,000 generated corrections through the C library and the
 run_test library-named "named cases, by the C library" named_cases "${x86_run[@]}" build/harness
 run_test library-cases "50,000 generated cases through the C library and the second program" compare_cases build/second gen 1 50000
 run_test runs "200 runs of 500 requests and corrections in a row" compare_cases build/second runs 1 200 500
+run_test desk-cases "desk cases, by the desk program" desk_cases "${x86_run[@]}" target/bin/desk
+run_test desk-runs "300 generated runs by the desk program and the second program; a pipe sees each line at once" tests/desk.sh 1 300
 run_test answers "every answer of 50,000 cases is read by the compiled message reader without a fault" answers_read 1 50000
 
 echo "$passed passed, $failed failed"

@@ -1,5 +1,5 @@
-// `second desks SEED`: the input of one run of the desk. Tables, requests and corrections, each over the table that the frames before it left; half of the runs end
-// oddly, and frames that nobody may read follow.
+// `second desks SEED`: the input of one run of the desk. Tables, requests and corrections, each over the table that the
+// frames before it left; half of the runs end oddly, some with a frame behind that nobody may read.
 
 use super::keys::Keys;
 use super::{after, correction, damage, request, table};
@@ -34,7 +34,8 @@ pub fn run(random: &mut Random, dictionary: &Dictionary, keys: &Keys) -> Vec<u8>
     }
     if random.chance(1, 2) {
         let last = next(random, dictionary, keys, &mut held);
-        input.extend(spoiled(random, last));
+        let behind = next(random, dictionary, keys, &mut held);
+        input.extend(spoiled(random, last, behind));
     }
     input
 }
@@ -76,26 +77,28 @@ fn at_the_desk(table: &[u8], request: &[u8]) -> Case {
     }
 }
 
-/// "A frame cut short, over 65,536 bytes, under 6, or of another version or kind", and more behind it unless it is cut.
-fn spoiled(random: &mut Random, mut frame: Vec<u8>) -> Vec<u8> {
-    match random.below(6) {
+/// "A frame cut short, over 65,536 bytes, under 6, or of another version or kind": the first ends the input, and behind the others stands a frame more.
+fn spoiled(random: &mut Random, mut frame: Vec<u8>, behind: Vec<u8>) -> Vec<u8> {
+    let fault = random.below(6);
+    match fault {
         0 => frame.truncate(random.within(1, 3)),
         1 => frame.truncate(random.below(frame.len())),
         2 => frame[4] = random.pick(&[0, 2, 0x81, 0xFF]),
         3 => frame[5] = random.pick(&[0, 4, 5, 0x81, 0xFF]),
-        4 => return lengthened(random, frame),
+        4 => lengthen(random, &mut frame),
         _ => frame[0..4].copy_from_slice(&random.pick(&[0u32, 1, 4, 5]).to_be_bytes()),
+    }
+    if fault > 1 {
+        frame.extend(behind);
     }
     frame
 }
 
 /// A length field over 65,536, with as many bytes behind it as it says or with fewer; or one of 65,536 itself, which is right.
-fn lengthened(random: &mut Random, mut frame: Vec<u8>) -> Vec<u8> {
+fn lengthen(random: &mut Random, frame: &mut Vec<u8>) {
     let size: u32 = random.pick(&[65_536, 65_537, 65_542, 0x0100_0000, 0xFFFF_FFFF]);
     frame[0..4].copy_from_slice(&size.to_be_bytes());
     if size < 70_000 {
         frame.resize(size as usize, random.byte());
-        frame.extend_from_slice(&[0, 0, 0]);
     }
-    frame
 }

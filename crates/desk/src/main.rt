@@ -7,6 +7,9 @@ use dymosaw::desk::MOST_FRAME;
 use dymosaw::desk::TABLE_ROOM;
 use libc::STDIN_FILENO;
 use libc::STDOUT_FILENO;
+ghost use Prim.Native.Nat.{_≤_};
+ghost use lib.ListN.{length};
+ghost use Rattle.paper.specs.Desk.{mostFrame};
 
 // Where the run stands after a frame, and whether it goes on.
 struct After {
@@ -15,7 +18,10 @@ struct After {
 }
 
 // Reads what there is of the next frame to the start of the buffer: its length field, then as many bytes as it says.
-fn read_frame(frame: &mut [u8; MOST_FRAME]) -> usize {
+fn read_frame(frame: &mut [u8]) -> usize
+    requires { ⌜ mostFrame ≤ length (now frame) ⌝ }
+    ensures { λ r. ⌜ r ≤ mostFrame ⌝ }
+{
     let got = io::read_full(STDIN_FILENO, &mut frame[..LENGTH_SIZE]);
     let end = LENGTH_SIZE + dymosaw::desk::rest_size(&frame[..got]);
     got + io::read_full(STDIN_FILENO, &mut frame[LENGTH_SIZE..end])

@@ -10,7 +10,7 @@ use lib.Dec.{ltb}
 use lib.ListN.{length, length-append}
 use borrow.Author.Tests.{lt-ltb, le-ltb, ltb-true, ltb-false}
 use Rattle.paper.specs.declared.Line.{Line}
-use Rattle.paper.specs.Desk.{numeral, decimal, spaced, codeBytes, lineBytes}
+use Rattle.paper.specs.Desk.{space, letterE, numeral, decimal, spaced, codeBytes, lineBytes}
 use Rattle.dymosaw.specs.Desk.{lineRoom}
 
 -- ---- digits
@@ -67,13 +67,13 @@ digits-u32 n h = few-digits 9 n (omega arith)
 
 pub spaced-length : (n : ℕ) → length (spaced n) ≡ 1 + length (decimal n)
 unfolding spaced
-spaced-length n = length-append (32 ∷ []) (decimal n)
+spaced-length n = length-append (space ∷ []) (decimal n)
 
 pub code-plain : (e : Bool) (c : ℕ) → e ≡ false → codeBytes e c ≡ spaced c
 unfolding codeBytes
 code-plain e c p = rw p
 
-pub code-marked : (e : Bool) (c : ℕ) → e ≡ true → codeBytes e c ≡ (32 ∷ []) ++ ((69 ∷ []) ++ decimal c)
+pub code-marked : (e : Bool) (c : ℕ) → e ≡ true → codeBytes e c ≡ (space ∷ []) ++ ((letterE ∷ []) ++ decimal c)
 unfolding codeBytes
 code-marked e c p = rw p
 

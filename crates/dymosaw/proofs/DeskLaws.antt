@@ -13,7 +13,7 @@ use borrow.Author.Tests.{eq-eqb, ne-eqb, lt-ltb, le-ltb, leb-true, ltb-true, ltb
 use Rattle.wire.specs.Number.{numAt}
 use Rattle.wire.specs.Put.{put, Wrote}
 use Rattle.wire.proofs.ListLaws.{and-true-left, and-true-right}
-use Rattle.wire.proofs.PutLaws.{put-same}
+use Rattle.wire.proofs.PutLaws.{put-same, length-put}
 use Rattle.paper.specs.declared.Line.{Line}
 use Rattle.paper.specs.declared.ResultCode.{ResultCode}
 use Rattle.paper.specs.declared.ExperimentalCode.{ExperimentalCode}
@@ -22,10 +22,12 @@ use Rattle.paper.specs.declared.Verdict.the-variants.{Base, Experimental}
 use Rattle.paper.specs.Table.{valid}
 use Rattle.paper.specs.Correction.{Corrected, corrected}
 use Rattle.paper.specs.Outcome.{Outcome, outcome}
-use Rattle.paper.specs.Desk.{Turn, plain, deskLent, answerLine, answerTurn, tableTurn, requestTurn, correctionTurn, lastTurn, sizeRight, frameRight, restSize, byFrameKind, turn, deskHead, mostFrame, lineBytes}
+use Rattle.paper.specs.Desk.{Turn, letterC, letterR, letterT, letterX, plain, deskLent, answerLine, answerTurn, tableTurn, requestTurn, correctionTurn, lastTurn, sizeRight, frameRight, restSize, byFrameKind, turn, deskHead, mostFrame, lineBytes}
 use Rattle.paper.proofs.TableLaws.{valid-parts}
+use Rattle.paper.proofs.DeskLaws.{size-least, size-most, frame-parts}
 use Rattle.dymosaw.specs.declared.desk.Desk.{Desk}
 use Rattle.dymosaw.specs.declared.desk.Turned.{Turned}
+use Rattle.dymosaw.specs.declared.desk.Stepped.{Stepped}
 use Rattle.dymosaw.specs.declared.serve.Served.{Served}
 use Rattle.dymosaw.specs.declared.serve.Served.the-variants.{Refused, Answered}
 use Rattle.dymosaw.specs.Serve.{numberOf, sizeOf, saidBy, listedBy}
@@ -67,28 +69,28 @@ made-there l x g b n s e = made l x g e b (x ++ drop n b) n (sym s) (front-store
 abbrev lineFor : Served → Line
 lineFor r = answerLine (numberOf r) (saidBy r) (sizeOf r) (listedBy r)
 
-pub refused-line : {r : Served} (n : ℕ) → r ≡ Refused n → {l : Line} → l ≡ plain 82 n → l ≡ answerLine (numberOf r) (saidBy r) (sizeOf r) (listedBy r)
+pub refused-line : {r : Served} (n : ℕ) → r ≡ Refused n → {l : Line} → l ≡ plain letterR n → l ≡ answerLine (numberOf r) (saidBy r) (sizeOf r) (listedBy r)
 unfolding answerLine
 refused-line n e p = p ∙ ap lineFor (sym e)
 
 pub base-line : {r : Served} {v : Verdict} (c : ResultCode) (n k : ℕ) → r ≡ Answered v n k → v ≡ Base c
-    → record { letter = 82; experimental = false; code = c .0; size = n; listed = k } ≡ answerLine (numberOf r) (saidBy r) (sizeOf r) (listedBy r)
+    → record { letter = letterR; experimental = false; code = c .0; size = n; listed = k } ≡ answerLine (numberOf r) (saidBy r) (sizeOf r) (listedBy r)
 unfolding answerLine
 base-line c n k e q = ap lineFor (sym (e ∙ ap (λ (v : Verdict). Answered v n k) q))
 
 pub experimental-line : {r : Served} {v : Verdict} (c : ExperimentalCode) (n k : ℕ) → r ≡ Answered v n k → v ≡ Experimental c
-    → record { letter = 82; experimental = true; code = c .0; size = n; listed = k } ≡ answerLine (numberOf r) (saidBy r) (sizeOf r) (listedBy r)
+    → record { letter = letterR; experimental = true; code = c .0; size = n; listed = k } ≡ answerLine (numberOf r) (saidBy r) (sizeOf r) (listedBy r)
 unfolding answerLine
 experimental-line c n k e q = ap lineFor (sym (e ∙ ap (λ (v : Verdict). Answered v n k) q))
 
 -- ---- the kinds
 
 module _ (t d : List ℕ) where
-  pub table-taken : valid d ≡ true → {l : Line} → l ≡ plain 84 0 → turnOf l d true ≡ tableTurn t d
+  pub table-taken : valid d ≡ true → {l : Line} → l ≡ plain letterT 0 → turnOf l d true ≡ tableTurn t d
   unfolding tableTurn
   table-taken e p = rw (e, p)
 
-  pub table-refused : valid d ≡ false → {l : Line} → l ≡ plain 84 4 → turnOf l t true ≡ tableTurn t d
+  pub table-refused : valid d ≡ false → {l : Line} → l ≡ plain letterT 4 → turnOf l t true ≡ tableTurn t d
   unfolding tableTurn
   table-refused e p = rw (e, p)
 
@@ -97,9 +99,9 @@ module _ (t d : List ℕ) where
   unfolding requestTurn answerTurn
   answered-turn r {x} e p = ap (λ (k : Line). turnOf k x true) p ∙ ap answerTurn e
 
-  pub corrected-turn : {n : ℕ} {x : List ℕ} → Entry.cameTo n x ≡ corrected t d → {l : Line} → l ≡ plain 67 n → turnOf l x true ≡ correctionTurn t d
+  pub corrected-turn : {n : ℕ} {x : List ℕ} → Entry.cameTo n x ≡ corrected t d → {l : Line} → l ≡ plain letterC n → turnOf l x true ≡ correctionTurn t d
   unfolding correctionTurn
-  corrected-turn {n} {x} e p = ap (λ (k : Line). turnOf k x true) p ∙ ap (λ (c : Corrected). turnOf (plain 67 (c .number)) (c .table) true) e
+  corrected-turn {n} {x} e p = ap (λ (k : Line). turnOf k x true) p ∙ ap (λ (c : Corrected). turnOf (plain letterC (c .number)) (c .table) true) e
 
   module _ (kind : ℕ) where
     pub kind-table : kind ≡ 1 → tableTurn t d ≡ byFrameKind kind t d
@@ -118,38 +120,22 @@ module _ (t d : List ℕ) where
     unfolding byFrameKind
     kind-other a b c = rw (ne-eqb kind 1 a, ne-eqb kind 2 b, ne-eqb kind 3 c)
 
-pub last-plain : (t : List ℕ) {l : Line} → l ≡ plain 88 0 → turnOf l t false ≡ lastTurn t
+pub last-plain : (t : List ℕ) {l : Line} → l ≡ plain letterX 0 → turnOf l t false ≡ lastTurn t
 unfolding lastTurn
 last-plain t p = rw p
 
 -- ---- any frame
 
-size-least : (n : ℕ) → sizeRight n ≡ true → deskHead ≤ n
-unfolding sizeRight
-size-least n e = leb-true deskHead n (and-true-left (leb deskHead n) _ e)
-
-size-most : (n : ℕ) → sizeRight n ≡ true → n ≤ mostFrame
-unfolding sizeRight
-size-most n e = leb-true n mostFrame (and-true-right (leb deskHead n) _ e)
-
 pub frame-tested : (f : List ℕ) {n : ℕ} {s : Bool} → n ≡ numAt 4 f 0 → s ≡ sizeRight n → s && (eqb (length f) n && eqb (getD f 4 0) 1) ≡ frameRight f
 unfolding frameRight
 frame-tested f e p = rw (p, e)
-
--- a right frame has its head
-pub frame-long : (f : List ℕ) → frameRight f ≡ true → deskHead ≤ length f
-unfolding frameRight
-frame-long f e =
-    let least = size-least (numAt 4 f 0) (and-true-left (sizeRight (numAt 4 f 0)) _ e) in
-    let whole = eqb-true (length f) (numAt 4 f 0) (and-true-left (eqb (length f) (numAt 4 f 0)) _ (and-true-right (sizeRight (numAt 4 f 0)) _ e)) in
-    omega arith
 
 pub frame-short : (f : List ℕ) → length f < deskHead → false ≡ frameRight f
 frame-short f h = go (frameRight f) refl
   where
     go : (b : Bool) → frameRight f ≡ b → false ≡ b
     go false e = refl
-    go true e = let long = frame-long f e in absurd (omega arith)
+    go true e = let long = frame-parts f e .long in absurd (omega arith)
 
 -- the part of a frame behind its head, as code lends it
 pub turn-right : (t f : List ℕ) → frameRight f ≡ true → byFrameKind (getD f 5 0) t (take (length f - deskHead) (drop deskHead f)) ≡ turn t f
@@ -196,3 +182,9 @@ told f {b = b} {l = l} {d = d} e m w n =
       line = w .made ∙ ap (λ (x : Line). put 0 (lineBytes (d .number) x) l) (u .line);
       goesOn = u .goesOn;
     }
+
+-- a line that fits leaves the length of its buffer
+pub told-length : {u : Turn} {d : Desk} {b l b′ l′ : List ℕ} {r : Stepped} → Told u d b l b′ l′ r → r .line ≤ length l → length l′ ≡ length l
+told-length {u} {d} {l = l} t h =
+    let size = t .size in
+    ap length (t .line) ∙ length-put 0 (lineBytes (d .number) (u .line)) l (omega arith)

@@ -2,6 +2,6 @@
 // none has a `requires`. What C owes beside (pointers, buffers apart) is said in include/dymosaw.h.
 pub mod correct;
 pub mod desk;
-pub mod line;
+mod line;
 pub mod read;
 pub mod serve;

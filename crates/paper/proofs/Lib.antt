@@ -13,6 +13,7 @@ pub mod CorrectionFields
 pub mod CorrectionLaws
 pub mod Cover
 mod DeskExamples
+pub mod DeskLaws
 pub mod EchoSizes
 pub mod EntryLaws
 pub mod Everything

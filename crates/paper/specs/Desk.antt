@@ -16,29 +16,51 @@ use Rattle.paper.specs.Outcome.{Lent, Outcome, outcome}
 
 -- ---- numbers in decimal
 
--- the last digits of `n` without zeros in front, `k` of them at most
+-- the decimal digits of `n` in ASCII, `k` of them at most
 unfoldable pub numeral : ℕ → ℕ → List ℕ
 numeral zero n = []
 numeral (suc k) n = cond (ltb n 10) ((48 + n) ∷ []) (numeral k (n / 10) ++ ((48 + n % 10) ∷ []))
 
--- all of them: no number has more digits than itself and one
+-- all of them: a number has no more digits than itself and one
 unfoldable pub decimal : ℕ → List ℕ
 decimal n = numeral (suc n) n
 
 -- ---- a line: "frame number, letter T, R or C, code (E before an Experimental one [..]), answer length, entries listed"
 
+-- in ASCII
+abbrev pub space : ℕ
+space = 32
+
+abbrev pub lineFeed : ℕ
+lineFeed = 10
+
+abbrev pub letterC : ℕ
+letterC = 67
+
+abbrev pub letterE : ℕ
+letterE = 69
+
+abbrev pub letterR : ℕ
+letterR = 82
+
+abbrev pub letterT : ℕ
+letterT = 84
+
+abbrev pub letterX : ℕ
+letterX = 88
+
 -- a number behind a space
 unfoldable pub spaced : ℕ → List ℕ
-spaced n = (32 ∷ []) ++ decimal n
+spaced n = (space ∷ []) ++ decimal n
 
 unfoldable pub codeBytes : Bool → ℕ → List ℕ
-codeBytes true code = (32 ∷ []) ++ ((69 ∷ []) ++ decimal code)
+codeBytes true code = (space ∷ []) ++ ((letterE ∷ []) ++ decimal code)
 codeBytes false code = spaced code
 
 -- "every line ends with one line feed"
 unfoldable pub lineBytes : ℕ → Line → List ℕ
 lineBytes n l =
-    decimal n ++ ((32 ∷ []) ++ ((l .letter ∷ []) ++ (codeBytes (l .experimental) (l .code) ++ (spaced (l .size) ++ (spaced (l .listed) ++ (10 ∷ []))))))
+    decimal n ++ ((space ∷ []) ++ ((l .letter ∷ []) ++ (codeBytes (l .experimental) (l .code) ++ (spaced (l .size) ++ (spaced (l .listed) ++ (lineFeed ∷ []))))))
 
 -- a line of a frame that is not answered
 abbrev pub plain : ℕ → ℕ → Line
@@ -70,7 +92,7 @@ pub record Turn : Type 0 where
 -- "A table not valid prints code 4 and keeps the old."
 unfoldable pub tableTurn : List ℕ → List ℕ → Turn
 tableTurn t d =
-    cond (valid d) (record { line = plain 84 0; table = d; goesOn = true }) (record { line = plain 84 4; table = t; goesOn = true })
+    cond (valid d) (record { line = plain letterT 0; table = d; goesOn = true }) (record { line = plain letterT 4; table = t; goesOn = true })
 
 -- "own host `hss.example`, realm `example`"
 abbrev pub ownRealm : List ℕ
@@ -79,16 +101,16 @@ ownRealm = 101 ∷ 120 ∷ 97 ∷ 109 ∷ 112 ∷ 108 ∷ 101 ∷ []
 abbrev pub ownHost : List ℕ
 ownHost = 104 ∷ 115 ∷ 115 ∷ 46 ∷ ownRealm
 
--- the buffers of a request at the desk: as short as may be, and empty
+-- what is lent for a request at the desk: buffers as short as may be, of zeros
 abbrev pub deskLent : List ℕ → List ℕ → Lent
 deskLent t d =
     record { table = t; request = d; host = ownHost; realm = ownRealm; answer = replicate leastAnswer 0; cancel = replicate cancelSize 0 }
 
 -- the number of a refusal without an answer, else the code of the answer
 unfoldable pub answerLine : ℕ → Option Verdict → ℕ → ℕ → Line
-answerLine number none size listed = record { letter = 82; experimental = false; code = number; size = size; listed = listed }
-answerLine number (some (base code)) size listed = record { letter = 82; experimental = false; code = code; size = size; listed = listed }
-answerLine number (some (experimental code)) size listed = record { letter = 82; experimental = true; code = code; size = size; listed = listed }
+answerLine number none size listed = record { letter = letterR; experimental = false; code = number; size = size; listed = listed }
+answerLine number (some (base code)) size listed = record { letter = letterR; experimental = false; code = code; size = size; listed = listed }
+answerLine number (some (experimental code)) size listed = record { letter = letterR; experimental = true; code = code; size = size; listed = listed }
 
 unfoldable pub answerTurn : Outcome → Turn
 answerTurn o = record { line = answerLine (o .number) (o .verdict) (o .size) (o .listed); table = o .table; goesOn = true }
@@ -97,11 +119,11 @@ unfoldable pub requestTurn : List ℕ → List ℕ → Turn
 requestTurn t d = answerTurn (outcome (deskLent t d))
 
 unfoldable pub correctionTurn : List ℕ → List ℕ → Turn
-correctionTurn t d = record { line = plain 67 (corrected t d .number); table = corrected t d .table; goesOn = true }
+correctionTurn t d = record { line = plain letterC (corrected t d .number); table = corrected t d .table; goesOn = true }
 
 -- "prints `n X 0 0 0`, n its number, and ends the run"
 unfoldable pub lastTurn : List ℕ → Turn
-lastTurn t = record { line = plain 88 0; table = t; goesOn = false }
+lastTurn t = record { line = plain letterX 0; table = t; goesOn = false }
 
 unfoldable pub byFrameKind : ℕ → List ℕ → List ℕ → Turn
 byFrameKind kind t d =

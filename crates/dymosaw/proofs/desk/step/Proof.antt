@@ -25,8 +25,7 @@ returns c =
     let p = c .before in
     let t = p .before .before in
     let u = t .before in
-    let s = u .before .before .before in
-    (
+    let s = u .before .before .before in (
       told (s .args .frame .now) (u .used-of .ensures .1 (s .args .buffer .now) (search needs)) (t .take-turn .ensures) (p .put-line .ensures .0) (c .wrapping-add-u64 .ensures),
       p .put-line .ensures .1,
     )

@@ -7,7 +7,8 @@ use native.Mathlib.Omega.{arith}
 use lib.ListN.{length, take}
 use borrow.Author.Tests.{not-true, not-false}
 use Rattle.paper.specs.Desk.{deskHead, frameRight}
-use Rattle.dymosaw.proofs.DeskLaws.{made-as, frame-long, turn-right, turn-wrong}
+use Rattle.paper.proofs.DeskLaws.{frame-parts}
+use Rattle.dymosaw.proofs.DeskLaws.{made-as, turn-right, turn-wrong}
 use borrow.Author.Needs.{needs}
 use Rattle.dymosaw.proofs.desk.take_turn.Statement.{statement}
 use Rattle.dymosaw.proofs.desk.take_turn.Tie as tie
@@ -31,7 +32,7 @@ right : (i : tie.Else1) → frameRight (i .before .before .before .before .args 
 right i = sym (i .before .frame-right .ensures) ∙ not-false (i .before .frame-right .result) (i .if1 .left)
 
 long : (i : tie.Else1) → deskHead ≤ length (i .before .before .before .before .args .frame .now)
-long i = frame-long (i .before .before .before .before .args .frame .now) (right i)
+long i = frame-parts (i .before .before .before .before .args .frame .now) (right i) .long
 
 shared-slice-read-kind-turn : tie.Need-shared-slice-read-kind-turn
 shared-slice-read-kind-turn c = let l = long (c .before .before) in search needs
