@@ -2,6 +2,7 @@
 -- Assumes nothing.
 use mathlib.Core.Path.{_≡_, refl, sym, ap, _∙_, subst}
 use mathlib.Core.Bool.{Bool, true, false, cond, _&&_}
+use mathlib.Core.Option.{some}
 use mathlib.Core.List.{List, _++_}
 use Prim.Native.Nat.{ℕ, _+_, _-_, _%_, _^_, _≤_, _<_}
 use native.Mathlib.Nat.{zero-add}
@@ -15,10 +16,8 @@ use Rattle.wire.specs.Put.{put, Wrote}
 use Rattle.wire.proofs.ListLaws.{and-true-left, and-true-right}
 use Rattle.wire.proofs.PutLaws.{put-same, length-put}
 use Rattle.paper.specs.declared.Line.{Line}
-use Rattle.paper.specs.declared.ResultCode.{ResultCode}
-use Rattle.paper.specs.declared.ExperimentalCode.{ExperimentalCode}
 use Rattle.paper.specs.declared.Verdict.{Verdict}
-use Rattle.paper.specs.declared.Verdict.the-variants.{Base, Experimental}
+use Rattle.paper.specs.Shown.{verdictOf}
 use Rattle.paper.specs.Table.{valid}
 use Rattle.paper.specs.Correction.{Corrected, corrected}
 use Rattle.paper.specs.Outcome.{Outcome, outcome}
@@ -73,15 +72,9 @@ pub refused-line : {r : Served} (n : ℕ) → r ≡ Refused n → {l : Line} →
 unfolding answerLine
 refused-line n e p = p ∙ ap lineFor (sym e)
 
-pub base-line : {r : Served} {v : Verdict} (c : ResultCode) (n k : ℕ) → r ≡ Answered v n k → v ≡ Base c
-    → record { letter = letterR; experimental = false; code = c .0; size = n; listed = k } ≡ answerLine (numberOf r) (saidBy r) (sizeOf r) (listedBy r)
-unfolding answerLine
-base-line c n k e q = ap lineFor (sym (e ∙ ap (λ (v : Verdict). Answered v n k) q))
-
-pub experimental-line : {r : Served} {v : Verdict} (c : ExperimentalCode) (n k : ℕ) → r ≡ Answered v n k → v ≡ Experimental c
-    → record { letter = letterR; experimental = true; code = c .0; size = n; listed = k } ≡ answerLine (numberOf r) (saidBy r) (sizeOf r) (listedBy r)
-unfolding answerLine
-experimental-line c n k e q = ap lineFor (sym (e ∙ ap (λ (v : Verdict). Answered v n k) q))
+pub answered-line : {r : Served} {v : Verdict} (w : Verdict) (n k : ℕ) → r ≡ Answered v n k → v ≡ w
+    → answerLine 0 (some (verdictOf w)) n k ≡ answerLine (numberOf r) (saidBy r) (sizeOf r) (listedBy r)
+answered-line w n k e q = ap lineFor (sym (e ∙ ap (λ (v : Verdict). Answered v n k) q))
 
 -- ---- the kinds
 

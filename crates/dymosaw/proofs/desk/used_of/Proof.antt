@@ -3,6 +3,7 @@
 use mathlib.Core.Path.{sym, _∙_}
 use native.Mathlib.Omega.{arith}
 use lib.Seq.{take-all}
+use Rattle.dymosaw.specs.Desk.{tableRoom}
 use borrow.Author.Needs.{needs}
 use Rattle.dymosaw.proofs.desk.used_of.Statement.{statement}
 use Rattle.dymosaw.proofs.desk.used_of.Tie as tie
@@ -11,7 +12,7 @@ returns : tie.Need-returns
 returns c = search needs
 
 returns-2 : tie.Need-returns-2
-returns-2 c = (omega arith, λ b e. take-all 61448 b (omega arith) ∙ sym (take-all (c .before .args .desk .used) b (omega arith)))
+returns-2 c = (omega arith, λ b e. take-all tableRoom b (omega arith) ∙ sym (take-all (c .before .args .desk .used) b (omega arith)))
 
 pub used-of-spec : {M : Type 1} → statement M
 used-of-spec = tie.close (tie.spec returns returns-2)
