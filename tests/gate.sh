@@ -40,6 +40,8 @@ run_test runs "200 runs of 500 requests and corrections in a row" compare_cases 
 run_test widened-damaged "the test of widened requests refuses damaged pairs and results" python3 tests/widened_test.py
 run_test widened "20,000 widenings of accepted requests change nothing, by the C library" compare_widened widened 1 20000
 run_test widened-mandatory "5,000 widenings with a mandatory AVP are refused with 5001, by the C library" compare_widened widened-mandatory 1 5000
+run_test desk-cases "desk cases, by the desk program" desk_cases "${x86_run[@]}" target/bin/desk
+run_test desk-runs "300 generated runs by the desk program and the second program; a pipe sees each line at once" tests/desk.sh 1 300
 run_test answers "every answer of 50,000 cases is read by the compiled message reader without a fault" answers_read 1 50000
 run_test reach "zero lengths, greatest sizes, odd addresses and the same call twice, from C" reach
 run_test package "the installed library, linked by examples/link with pkg-config's flags, runs the example's session" tests/package.sh

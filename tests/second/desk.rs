@@ -6,10 +6,10 @@ use crate::registry::{answer_request, Call, Reply};
 use crate::table;
 use std::io::{self, Read, Write};
 
-const HOST: &[u8] = b"hss.example";
-const REALM: &[u8] = b"example";
+pub const HOST: &[u8] = b"hss.example";
+pub const REALM: &[u8] = b"example";
 /// "at first the empty table"
-const EMPTY_TABLE: [u8; 8] = [0, 0, 0, 8, 1, 0, 0, 0];
+pub const EMPTY_TABLE: [u8; 8] = [0, 0, 0, 8, 1, 0, 0, 0];
 
 /// "A frame cut short, over 65,536 bytes, under 6, or of another version or kind" is none of the three.
 enum Frame {

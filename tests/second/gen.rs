@@ -10,6 +10,8 @@ mod content;
 mod correction;
 #[path = "gen_damage.rs"]
 mod damage;
+#[path = "gen_desk.rs"]
+mod desk;
 #[path = "gen_draft.rs"]
 mod draft;
 #[path = "gen_frame.rs"]
@@ -63,7 +65,7 @@ pub fn runs(dictionary: &Dictionary, seed: u64, runs: u64, steps: u64, out: &mut
         for _ in 0..steps {
             let case = step(&mut random, &keys, &records);
             write_case(out, &case)?;
-            records = crate::build::records(&table_after(dictionary, &case));
+            records = crate::build::records(&after(dictionary, &case));
         }
     }
     Ok(())
@@ -87,6 +89,11 @@ pub fn widened(
     Ok(())
 }
 
+/// `second desks SEED`: the input of one run of the desk.
+pub fn desks(dictionary: &Dictionary, seed: u64, out: &mut impl Write) -> io::Result<()> {
+    out.write_all(&desk::run(&mut Random::new(seed), dictionary, &Keys::new(dictionary)))
+}
+
 fn step(random: &mut Random, keys: &Keys, records: &[Record]) -> Case {
     if random.chance(1, 4) {
         return correction::over(random, records);
@@ -99,7 +106,8 @@ fn step(random: &mut Random, keys: &Keys, records: &[Record]) -> Case {
     plan.case(random)
 }
 
-fn table_after(dictionary: &Dictionary, case: &Case) -> Vec<u8> {
+/// The table that a case leaves.
+fn after(dictionary: &Dictionary, case: &Case) -> Vec<u8> {
     match registry::judge(dictionary, case).outcome {
         Outcome::Request { table, .. } | Outcome::Correction { table, .. } => table,
     }

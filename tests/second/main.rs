@@ -24,7 +24,7 @@ use std::io::{self, BufReader, BufWriter, Read, StdinLock, Write};
 
 const USAGE: &str =
     "usage: second cases | desk | read | gen SEED COUNT | corrections SEED COUNT | runs SEED RUNS STEPS \
-    | widened SEED PAIRS | widened-mandatory SEED PAIRS | tally | named FILE | expected FILE";
+    | desks SEED | widened SEED PAIRS | widened-mandatory SEED PAIRS | tally | named FILE | expected FILE";
 
 fn main() {
     let words: Vec<String> = std::env::args().skip(1).collect();
@@ -56,6 +56,7 @@ fn run(dictionary: &Dictionary, words: &[&str]) -> io::Result<i32> {
         ["runs", seed, runs, steps] => gen::runs(dictionary, whole(seed)?, whole(runs)?, whole(steps)?, &mut out)?,
         ["widened", seed, pairs] => gen::widened(dictionary, whole(seed)?, whole(pairs)?, false, &mut out)?,
         ["widened-mandatory", seed, pairs] => gen::widened(dictionary, whole(seed)?, whole(pairs)?, true, &mut out)?,
+        ["desks", seed] => gen::desks(dictionary, whole(seed)?, &mut out)?,
         ["tally"] => return Ok(tally::run(dictionary, &mut input)),
         ["named", file] => named::emit(dictionary, file)?,
         ["expected", file] => return Ok(named::compare(dictionary, file, &mut input)),

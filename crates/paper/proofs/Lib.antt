@@ -12,6 +12,8 @@ mod CorrectionExamples
 pub mod CorrectionFields
 pub mod CorrectionLaws
 pub mod Cover
+mod DeskExamples
+pub mod DeskLaws
 pub mod EchoSizes
 pub mod EntryLaws
 pub mod Everything

@@ -4,6 +4,7 @@ pub mod Attach
 pub mod Avp
 pub mod Clerks
 pub mod Correction
+pub mod Desk
 pub mod Fields
 pub mod Find
 pub mod Layout

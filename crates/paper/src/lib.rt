@@ -58,3 +58,12 @@ pub struct Asked {
     pub has_flags: bool,
     pub has_imei: bool,
 }
+
+// What a line of the desk says of a frame behind its number: letter, code (an Experimental one or not), answer length, entries listed.
+pub struct Line {
+    pub letter: u8,
+    pub experimental: bool,
+    pub code: u32,
+    pub size: usize,
+    pub listed: usize,
+}

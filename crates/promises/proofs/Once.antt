@@ -1,18 +1,26 @@
 -- One outcome for one input, of each public call that writes; demand 3 as a caller from Rattle and one from C see it; and the promises are not empty.
 -- Assumes nothing.
-use mathlib.Core.Path.{_≡_, refl, sym, ap, _∙_}
+use mathlib.Core.Path.{_≡_, refl, sym, ap, _∙_, subst}
 use mathlib.Core.Bool.{cond}
-use mathlib.Core.Option.{some}
-use mathlib.Core.List.{List, _++_}
-use Prim.Native.Nat.{ℕ, _+_, _*_, _^_}
+use mathlib.Core.Logic.{_≢_}
+use mathlib.Core.Option.{Option, none, some}
+use mathlib.Core.List.{List, [], _∷_, _++_}
+use Prim.Native.Nat.{ℕ, _+_, _*_, _/_, _%_, _^_}
 use native.Mathlib.Omega.{arith}
 use lib.Dec.{eqb}
-use lib.ListN.{replicate}
+use lib.ListN.{take, replicate}
+use Rattle.wire.specs.Number.{Bytes}
 use Rattle.paper.specs.declared.Verdict.{Verdict}
 use Rattle.paper.specs.declared.Verdict.the-variants.{Base, Experimental}
+use Rattle.paper.specs.Answer as Answer
 use Rattle.paper.specs.Attach.{tableAfter, attachAnswer, attachCancel, attachLent, attachOutcome}
 use Rattle.paper.specs.Correction.{Corrected, corrected}
-use Rattle.paper.specs.Outcome.{Outcome, outcome}
+use Rattle.paper.specs.Newer as Newer
+use Rattle.paper.specs.Newer.{Accepting, Accepted}
+use Rattle.paper.specs.Outcome.{Lent, Outcome, outcome}
+use Rattle.paper.specs.Read.{codesIn}
+use Rattle.paper.specs.ReadBack.{codesTold}
+use Rattle.paper.specs.Refusals as Refusals
 use Rattle.paper.specs.Shown.{verdictOf}
 use Rattle.paper.proofs.ClosedAttach as paper-attach
 use Rattle.paper.proofs.Newer as paper-newer
@@ -23,7 +31,9 @@ use Rattle.dymosaw.specs.declared.serve.Served.{Served}
 use Rattle.dymosaw.specs.declared.serve.Served.the-variants.{Refused, Answered}
 use Rattle.dymosaw.specs.Serve.{numberOf, sizeOf, saidBy, listedBy}
 use Rattle.promises.specs.Calls.{ServeCall, RequestCall, served, SameServed, SameRequested}
-use Rattle.promises.specs.Promises.{ServeNewerSame, RequestNewerSame, ServeOnce, RequestOnce, CorrectOnce, EntryOnce, AttachSucceeds}
+use Rattle.promises.specs.Promises.{AcceptingBytes, success, experimental, ServeNewerSame, RequestNewerSame, answerOf, ServeOnce, RequestOnce, CorrectOnce, EntryOnce, AttachSucceeds}
+use Rattle.promises.proofs.CallLaws.{for-c}
+use Rattle.promises.proofs.ReadBack.{answers-read-back}
 use Rattle.promises.proofs.Newer.{newer-same}
 
 -- ---- `serve`: its answer is read off the outcome
@@ -67,8 +77,33 @@ same-requested c d e =
       cancel = d .met .cancel ∙ ap (λ (x : Outcome). x .cancel) e ∙ sym (c .met .cancel);
     }
 
+-- what an answer says is what `outcome` says
+told-success : (n : ℕ) (v : Option Answer.Verdict) → codesTold (Refusals.saidBy n v) ≡ 2001 ∷ 0 ∷ [] → Accepting v
+unfolding codesTold Refusals.saidBy
+told-success n none e = let z : _≡_ {A = ℕ} 0 2001 = cc in absurd (omega arith)
+told-success n (some (Answer.base code)) e = let q : code ≡ 2001 = cc in rw q Newer.success
+told-success n (some (Answer.experimental code)) e = let z : _≡_ {A = ℕ} 0 2001 = cc in absurd (omega arith)
+
+told-experimental : (n : ℕ) (v : Option Answer.Verdict) (c : ℕ) → c ≢ 0 → codesTold (Refusals.saidBy n v) ≡ 0 ∷ c ∷ [] → Accepting v
+unfolding codesTold Refusals.saidBy
+told-experimental n none c ne e = let z : c ≡ 0 = cc in absurd (ne z)
+told-experimental n (some (Answer.base code)) c ne e = let z : c ≡ 0 = cc in absurd (ne z)
+told-experimental n (some (Answer.experimental code)) c ne e = Newer.experimental code
+
+bytes-accepting : (o : Outcome) (a : List ℕ) → codesIn a ≡ codesTold (Refusals.said o) → AcceptingBytes a → Accepting (o .verdict)
+unfolding Refusals.said
+bytes-accepting o a e (success q) = told-success (o .number) (o .verdict) (sym e ∙ q)
+bytes-accepting o a e (experimental code ne q) = told-experimental (o .number) (o .verdict) code ne (sym e ∙ q)
+
 pub request-newer-same : RequestNewerSame
-request-newer-same c d n h w e = same-requested c d (ap outcome e ∙ paper-newer.newer-same (c .given) n h w)
+request-newer-same c d n b z h w e =
+    let k = for-c c .0 in
+    let s = for-c c .1 in
+    let a : answerOf k ≡ take (c .result % 2 ^ 32) (c .answer) = cc in
+    let r = answers-read-back k (subst (λ (l : Lent). Bytes (l .request)) (sym (s .lent)) b) (s .number ∙ z) in
+    let v = bytes-accepting (k .left) (answerOf k) (r .codes) (subst AcceptingBytes (sym a) h) in
+    let accepted : Accepted (c .given) = subst (λ (o : Outcome). Accepting (o .verdict)) (k .met ∙ ap outcome (s .lent)) v in
+    same-requested c d (ap outcome e ∙ paper-newer.newer-same (c .given) n accepted w)
 
 pub request-once : RequestOnce
 request-once c d e = same-requested c d (ap outcome e)

@@ -5,7 +5,7 @@ use mathlib.Core.Logic.{_↔_, _≢_}
 use mathlib.Core.Bool.{true, false}
 use mathlib.Core.Option.{none, some}
 use mathlib.Core.List.{List, [], _∷_, _++_}
-use Prim.Native.Nat.{ℕ, _-_, _^_, _≤_, _<_}
+use Prim.Native.Nat.{ℕ, _-_, _/_, _%_, _^_, _≤_, _<_}
 use lib.ListN.{take, drop, replicate}
 use Rattle.wire.specs.Number.{Bytes}
 use Rattle.dictionary.specs.declared.Kind.the-variants.{Unknown}
@@ -17,12 +17,13 @@ use Rattle.paper.specs.Avp.{Avp, codeOf, vendorOf, flagsOf, avpOf, hasM}
 use Rattle.paper.specs.Clerks.{recordWith, standingOf, FirstThatHolds, Alters}
 use Rattle.paper.specs.Correction.{frameImsi, frameSeen}
 use Rattle.paper.specs.Layout.{messageHeader, mostEntries}
-use Rattle.paper.specs.Newer.{WidenedRequest, asking, Accepting, Accepted, unsupportedOutcome, withAvps, Fits, strippedRequest}
+use Rattle.paper.specs.Newer.{WidenedRequest, asking, Accepting, unsupportedOutcome, withAvps, Fits, strippedRequest}
 use Rattle.paper.specs.Procedures.{Entry, imsiField, isUlr, isPur, isNor, onS6a}
 use Rattle.paper.specs.Promises.{UpdatesOnS6a, UpdatesOnS6d, AnswersUlr, PurgesUe, Notifies}
-use Rattle.paper.specs.Read.{entriesIn}
+use Rattle.paper.specs.Read.{entriesIn, codesIn}
 use Rattle.paper.specs.ReadBack.{ReadBack}
-use Rattle.paper.specs.Refusals.{Said, number, result, experimental, said, refusals, First}
+use Rattle.paper.specs.Refusals as Refusals
+use Rattle.paper.specs.Refusals.{Said, number, result, said, refusals, First}
 use Rattle.paper.specs.Request.{viewOf}
 use Rattle.paper.specs.Run as Run
 use Rattle.paper.specs.Run.{Step, asks, corrects, Came, asked, put-right, acceptedIn}
@@ -62,12 +63,19 @@ StrippedSame =
     (c d : Call) → Bytes (d .lent .request) → Fits (d .lent .request) → Clear (viewOf (d .lent .request)) → c .lent ≡ asking (d .lent) (strippedRequest (d .lent .request))
     → Accepting (c .left .verdict) → d .left ≡ c .left
 
+-- an answer that says success or an Experimental-Result, by its bytes: Result-Code, and Experimental-Result-Code
+pub data AcceptingBytes (a : List ℕ) : Type 0 where
+  success : codesIn a ≡ 2001 ∷ 0 ∷ [] → AcceptingBytes a
+  experimental : (code : ℕ) → code ≢ 0 → codesIn a ≡ 0 ∷ code ∷ [] → AcceptingBytes a
+
 -- the first half as a caller of `serve` and as one of `dymosaw_request` sees it: "Answer, table and cancel buffer are the same, byte by byte"
 abbrev pub ServeNewerSame : Type 0
 ServeNewerSame = (c d : ServeCall) (n : List ℕ) → Accepting (saidBy (c .result)) → WidenedRequest (c .given .request) n none → d .given ≡ asking (c .given) n → SameServed c d
 
 abbrev pub RequestNewerSame : Type 0
-RequestNewerSame = (c d : RequestCall) (n : List ℕ) → Accepted (c .given) → WidenedRequest (c .given .request) n none → d .given ≡ asking (c .given) n → SameRequested c d
+RequestNewerSame =
+    (c d : RequestCall) (n : List ℕ) → Bytes (c .given .request) → c .result / 2 ^ 32 ≡ 0 → AcceptingBytes (take (c .result % 2 ^ 32) (c .answer))
+    → WidenedRequest (c .given .request) n none → d .given ≡ asking (c .given) n → SameRequested c d
 
 -- ---- 4. What an accepted request does
 
@@ -186,7 +194,7 @@ abbrev pub ResultTouchesNothing : Type 0
 ResultTouchesNothing = (c : Call) (code : ℕ) → code ≢ 2001 → said (c .left) ≡ result code → NoRecord (c .lent) (c .left)
 
 abbrev pub ExperimentalTouchesNothing : Type 0
-ExperimentalTouchesNothing = (c : Call) (code : ℕ) → said (c .left) ≡ experimental code → NoRecord (c .lent) (c .left)
+ExperimentalTouchesNothing = (c : Call) (code : ℕ) → said (c .left) ≡ Refusals.experimental code → NoRecord (c .lent) (c .left)
 
 abbrev pub NumberTouchesNothing : Type 0
 NumberTouchesNothing = (c : Call) (n : ℕ) → said (c .left) ≡ number n → NoByte (c .lent) (c .left)

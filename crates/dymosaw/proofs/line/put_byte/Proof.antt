@@ -1,0 +1,22 @@
+-- `put_byte` meets its contract: one byte, and the place after it.
+-- Assumes nothing.
+use mathlib.Core.Path.{refl}
+use Rattle.wire.proofs.PutLaws.{put-one}
+use borrow.Author.Needs.{needs}
+use Rattle.dymosaw.proofs.line.put_byte.Statement.{statement}
+use Rattle.dymosaw.proofs.line.put_byte.Tie as tie
+
+slice-write-out : tie.Need-slice-write-out
+slice-write-out c = search needs
+
+add-result : tie.Need-add-result
+add-result c = search needs
+
+same-length : tie.Need-same-length
+same-length c = search needs
+
+returns : tie.Need-returns
+returns c = record { next = refl; made = put-one (c .args .at) (c .args .b) (c .args .out .now) (c .pre) }
+
+pub put-byte-spec : {M : Type 1} → statement M
+put-byte-spec = tie.close (tie.spec slice-write-out add-result same-length returns)
