@@ -13,7 +13,7 @@ c_flags=(-O2 -std=gnu11 -Wall -Wextra -Werror -Iinclude -Ibench "-I$out")
 renamed=(-Ddymosaw_request=baseline_request -Ddymosaw_correct=baseline_correct)
 
 build_bench() {
-    mkdir -p "$out" && build_second && rt staticlib dymosaw &&
+    build_second && rt staticlib dymosaw &&
         gcc -O2 -shared -fPIC -Wall -Wextra -Werror bench/count.c -o "$out/libcount.so" &&
         python3 bench/dictionary.py docs/DICTIONARY.md >"$out/dictionary.inc" &&
         "$x86_cc" "${c_flags[@]}" -c bench/baseline.c -o "$out/baseline.o" &&
@@ -28,6 +28,7 @@ same_bytes() {
     compare_cases build/second gen 1 10000 && compare_cases build/second corrections 1 10000 && named_cases "${x86_run[@]}" "$harness"
 }
 
+mkdir -p "$out" || exit 1
 build_bench >"$out.log" 2>&1 && same_bytes >>"$out.log" 2>&1 || {
     tail -n 40 "$out.log"
     echo "bench: not built, or the baseline's bytes differ"

@@ -4,27 +4,26 @@ use mathlib.Core.Path.{_≡_, refl, sym, ap, _∙_}
 use mathlib.Core.Bool.{Bool, true, false, cond, not, _&&_}
 use mathlib.Core.Option.{Option, none, some}
 use mathlib.Core.List.{List, [], _∷_, map}
-use Prim.Native.Nat.{ℕ, zero, suc, _+_, _*_, _-_, _≤_, _<_}
+use Prim.Native.Nat.{ℕ, zero, suc, _+_, _-_, _≤_, _<_}
 use native.Mathlib.Nat.{zero-add}
 use native.Mathlib.Omega.{arith}
 use lib.ListN.{length, drop, getD, set, replicate, getD-replicate, length-map, length-set, length-replicate, List·getD-map}
 use lib.Seq.{getD-set-same, getD-set-other}
-use lib.Dec.{eqb, leb}
+use lib.Dec.{eqb}
 use borrow.Author.Tests.{eqb-true, eqb-false, eq-eqb, ne-eqb, le-leb, lt-leb}
 use Rattle.dictionary.specs.Rows.{keyOf}
 use Rattle.paper.specs.Avp.{framed}
 use Rattle.paper.specs.Reader.{Placed, placed, avps}
 use Rattle.paper.specs.Find.{member, firstOf, firstSecond}
 use Rattle.paper.proofs.AvpsLaws.{Stands, firstOf-stands, stands-least}
-use Rattle.avp.specs.Step.{avpAt, stepAt}
+use Rattle.avp.specs.Step.{stepAt}
 use Rattle.avp.specs.Found.{indexOf, foundAt, foundBy, placeIn, Noted}
 use Rattle.avp.specs.declared.cursor.Avp.{Avp}
 use Rattle.avp.specs.declared.cursor.Cursor.{Cursor}
 use Rattle.avp.specs.declared.cursor.Step.the-variants.{Item, End, Bad}
-use Rattle.avp.specs.declared.find.Found.{Found}
-use Rattle.avp.proofs.StepLaws.{step-end, item-place, item-further, item-fits}
+use Rattle.avp.proofs.StepLaws.{item-place, item-further, item-fits}
 use Rattle.avp.proofs.FindLaws.{walk-start, find-end, find-bad, find-here, find-later}
-use Rattle.avp.proofs.SecondLaws.{index-member, index-apart, no-member-index, member-index, Walked, walked-start, second-end, second-bad, second-other, second-mark}
+use Rattle.avp.proofs.SecondLaws.{index-member, index-apart, member-index, Walked, walked-start, second-end, second-bad, second-other, second-mark}
 
 -- ---- keys
 

@@ -1,5 +1,5 @@
-// AVPs looked for at the top level of a stretch: the first of a key, the first that is a second of a key of a set, and their data as a part
-// of the caller's own slice. A stretch that breaks off is looked through as far as it can be read.
+// AVPs looked for at the top level of a stretch: the first of a key, the places of the first of several keys by one walk, the first that is a second
+// of a key of a set, and their data as a part of the caller's own slice. A stretch that breaks off is looked through as far as it can be read.
 ghost use mathlib.Core.Path.{_≡_};
 ghost use mathlib.Core.Bool.{false, _&&_};
 ghost use mathlib.Core.List.{[]};

@@ -2,7 +2,7 @@
 -- Assumes nothing.
 use mathlib.Core.Path.{_≡_, refl, sym, ap, _∙_}
 use mathlib.Core.Bool.{Bool, true, false, cond, _&&_, _||_, false≢true}
-use mathlib.Core.Option.{Option, none, some}
+use mathlib.Core.Option.{none, some}
 use mathlib.Core.List.{List, [], _∷_, map}
 use Prim.Native.Nat.{ℕ, _≤_}
 use native.Mathlib.Omega.{arith}
@@ -10,7 +10,7 @@ use lib.ListN.{length}
 use lib.Dec.{eqb}
 use borrow.Author.Tests.{eqb-true}
 use Rattle.dictionary.specs.Rows.{keyOf}
-use Rattle.paper.specs.Reader.{Placed, Avps, whole, broken, more, avps}
+use Rattle.paper.specs.Reader.{Avps, whole, broken, more, avps}
 use Rattle.paper.specs.Find.{member, firstSecond}
 use Rattle.paper.specs.Profile.{Key, commandOf, commands, commandIn}
 use Rattle.paper.specs.Request.{find, avpsOf, keyNumber, used, usedIn}

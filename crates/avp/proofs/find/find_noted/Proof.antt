@@ -9,34 +9,22 @@ use Rattle.avp.proofs.NotedLaws.{noted-found}
 use borrow.Author.Needs.{needs}
 use Rattle.avp.proofs.find.find_noted.Statement.{statement}
 use Rattle.avp.proofs.find.find_noted.Tie as tie
-use Rattle.avp.proofs.find.find_noted.Reads as reads
-use Rattle.avp.proofs.find.find_noted.Lts as lts
-use Rattle.avp.proofs.find.find.Reads as find-reads
-use Rattle.avp.proofs.find.found_at.Reads as found-at-reads
-use Rattle.avp.proofs.find.index_of.Reads as index-of-reads
-use Rattle.avp.proofs.find.key_of.Reads as key-of-reads
 
--- src/find.rt:149:28
 key-of-requires : tie.Need-key-of-requires
 key-of-requires c κs = search needs
 
--- src/find.rt:149:9
 index-of-requires : tie.Need-index-of-requires
 index-of-requires c κs = search needs
 
--- src/find.rt:151:28
 mul-found-at : tie.Need-mul-found-at
 mul-found-at c = search needs
 
--- src/find.rt:151:28
 shared-slice-read-found-at : tie.Need-shared-slice-read-found-at
 shared-slice-read-found-at c = search needs
 
--- src/find.rt:151:9
 found-at-requires : tie.Need-found-at-requires
 found-at-requires c κs = search needs
 
--- src/find.rt:151:9
 returns : tie.Need-returns
 returns c =
     let i = c .before .before .before in
@@ -46,11 +34,9 @@ returns c =
     let p = s .pre .first (s .args .vendor) (s .args .code) (i .before .key-of .ensures .1) m in
     c .found-at .ensures ∙ noted-found _ (s .args .vendor) (s .args .code) (ap (λ (j : ℕ). getD (s .args .places .now) j 0) e ∙ p)
 
--- src/find.rt:153:5
 find-requires : tie.Need-find-requires
 find-requires c κs = search needs
 
--- src/find.rt:145:1
 returns-2 : tie.Need-returns-2
 returns-2 c = search needs
 

@@ -5,8 +5,6 @@ use mathlib.Core.Bool.{false, false≢true}
 use Prim.Native.Nat.{_-_}
 use native.Mathlib.Omega.{arith}
 use lib.ListN.{length, length-set}
-use Rattle.avp.specs.declared.cursor.Step.the-variants.{Item}
-use Rattle.avp.specs.Step.{stepAt}
 use Rattle.avp.proofs.StepLaws.{item-falls}
 use Rattle.avp.proofs.NotedLaws.{Noting, noting-start, noting-end, noting-bad, noting-other, noting-again, noting-mark, Once, once-start, once-end, once-bad, once-other, once-mark}
 use borrow.Author.Needs.{needs}

@@ -1,7 +1,7 @@
 -- `request::tests::second_used` meets its contract. Assumes nothing.
 use native.Mathlib.Omega.{arith}
 use lib.Seq.{length-take-le}
-use borrow.Author.Tests.{not-true, not-false}
+use borrow.Author.Tests.{not-true}
 use Rattle.request.proofs.JudgeLaws.{used-length, second-of-used}
 use Rattle.request.proofs.NotedLaws.{no-second-used}
 use borrow.Author.Needs.{needs}
