@@ -26,7 +26,7 @@ run_test() { # KEY WORDS COMMAND..
 if [ "$(uname -m)" = x86_64 ]; then
     x86_cc=gcc x86_run=()
 else
-    x86_cc=x86_64-linux-gnu-gcc x86_run=(qemu-x86_64)
+    x86_cc=x86_64-linux-gnu-gcc x86_run=(qemu-x86_64 -L /usr/x86_64-linux-gnu)
 fi
 
 # Compiles a C program of the tests with a static library of crate CRATE.

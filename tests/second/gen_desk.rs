@@ -49,27 +49,32 @@ fn next(random: &mut Random, dictionary: &Dictionary, keys: &Keys, held: &mut Ve
             frame(TABLE, held)
         }
         1 => frame(TABLE, &table::damaged(random)),
-        2..=5 => {
-            let Case::Correction { table, frame: data } = correction::over(random, &records) else { unreachable!() };
-            *held = after(dictionary, &Case::Correction { table, frame: data.clone() });
-            frame(CORRECTION, &data)
-        }
+        2..=5 => framed(dictionary, correction::over(random, &records), held),
         _ => {
             let mut plan = request::over(random, keys, &records);
             if random.chance(1, 4) {
                 damage::apply(random, keys, &mut plan);
             }
-            let Case::Request { request, .. } = plan.case(random) else { unreachable!() };
-            *held = after(dictionary, &at_the_desk(held, &request));
-            frame(REQUEST, &request)
+            framed(dictionary, plan.case(random), held)
         }
     }
 }
 
-fn at_the_desk(table: &[u8], request: &[u8]) -> Case {
+/// The case's request or correction as a frame of the desk.
+fn framed(dictionary: &Dictionary, case: Case, held: &mut Vec<u8>) -> Vec<u8> {
+    let (kind, data, case) = match case {
+        Case::Request { request, .. } => (REQUEST, request.clone(), at_the_desk(held, request)),
+        Case::Correction { frame, .. } => (CORRECTION, frame.clone(), Case::Correction { table: held.clone(), frame }),
+    };
+    *held = after(dictionary, &case);
+    frame(kind, &data)
+}
+
+/// The request with the desk's own table, names and buffers.
+fn at_the_desk(table: &[u8], request: Vec<u8>) -> Case {
     Case::Request {
         table: table.to_vec(),
-        request: request.to_vec(),
+        request,
         host: HOST.to_vec(),
         realm: REALM.to_vec(),
         answer: vec![0; 4352],

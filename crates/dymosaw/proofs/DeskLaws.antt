@@ -1,7 +1,7 @@
 -- The desk's turns: what each kind of frame leaves in the desk's buffer.
 -- Assumes nothing.
 use mathlib.Core.Path.{_≡_, refl, sym, ap, _∙_, subst}
-use mathlib.Core.Bool.{Bool, true, false, cond, _&&_}
+use mathlib.Core.Bool.{Bool, true, false, _&&_}
 use mathlib.Core.Option.{some}
 use mathlib.Core.List.{List, _++_}
 use Prim.Native.Nat.{ℕ, _+_, _-_, _%_, _^_, _≤_, _<_}
@@ -9,18 +9,17 @@ use native.Mathlib.Nat.{zero-add}
 use native.Mathlib.Omega.{arith}
 use lib.ListN.{length, take, drop, getD, length-drop}
 use lib.Seq.{take-all, length-take-le}
-use lib.Dec.{leb, ltb, eqb}
-use borrow.Author.Tests.{eq-eqb, ne-eqb, lt-ltb, le-ltb, leb-true, ltb-true, ltb-false, eqb-true}
+use lib.Dec.{eqb}
+use borrow.Author.Tests.{eq-eqb, ne-eqb, lt-ltb, le-ltb}
 use Rattle.wire.specs.Number.{numAt}
 use Rattle.wire.specs.Put.{put, Wrote}
-use Rattle.wire.proofs.ListLaws.{and-true-left, and-true-right}
 use Rattle.wire.proofs.PutLaws.{put-same, length-put}
 use Rattle.paper.specs.declared.Line.{Line}
 use Rattle.paper.specs.declared.Verdict.{Verdict}
 use Rattle.paper.specs.Shown.{verdictOf}
 use Rattle.paper.specs.Table.{valid}
 use Rattle.paper.specs.Correction.{Corrected, corrected}
-use Rattle.paper.specs.Outcome.{Outcome, outcome}
+use Rattle.paper.specs.Outcome.{outcome}
 use Rattle.paper.specs.Desk.{Turn, letterC, letterR, letterT, letterX, plain, deskLent, answerLine, answerTurn, tableTurn, requestTurn, correctionTurn, lastTurn, sizeRight, frameRight, restSize, byFrameKind, turn, deskHead, mostFrame, lineBytes}
 use Rattle.paper.proofs.TableLaws.{valid-parts}
 use Rattle.paper.proofs.DeskLaws.{size-least, size-most, frame-parts}

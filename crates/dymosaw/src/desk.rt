@@ -19,10 +19,9 @@ ghost use mathlib.Core.Path.{_≡_};
 ghost use mathlib.Core.Bool.{true};
 ghost use mathlib.Core.List.{List};
 ghost use Prim.Native.Nat.{ℕ, _+_, _≤_};
-ghost use lib.ListN.{length, take, drop, getD, replicate};
+ghost use lib.ListN.{length, take, replicate};
 ghost use Rattle.wire.specs.Put.{put};
-ghost use Rattle.paper.specs.Layout.{tableHeader};
-ghost use Rattle.paper.specs.Desk.{emptyTable, deskHead, mostFrame, answerLine, tableTurn, requestTurn, correctionTurn, lastTurn, sizeRight, frameRight, restSize, byFrameKind, turn};
+ghost use Rattle.paper.specs.Desk.{emptyTable, mostFrame, answerLine, tableTurn, requestTurn, correctionTurn, lastTurn, sizeRight, frameRight, restSize, byFrameKind, turn};
 ghost use Rattle.dymosaw.specs.Serve.{numberOf, sizeOf, saidBy, listedBy};
 ghost use Rattle.dymosaw.specs.Desk.{tableRoom, lineRoom, turnOf, tableIn, Holds, Made, Told};
 
@@ -34,6 +33,10 @@ pub const LINE_ROOM: usize = 77;
 
 // A frame: whole length (4), version 1, kind, data.
 pub const LENGTH_SIZE: usize = 4;
+
+const VERSION_AT: usize = 4;
+
+const KIND_AT: usize = 5;
 
 const DESK_HEAD: usize = 6;
 
@@ -188,7 +191,7 @@ fn frame_right(frame: &[u8]) -> bool
         return false;
     }
     let whole = get_u32(frame, 0) as usize;
-    size_right(whole) & ((frame.len() == whole) & (frame[4] == DESK_VERSION))
+    size_right(whole) & ((frame.len() == whole) & (frame[VERSION_AT] == DESK_VERSION))
 }
 
 fn kind_turn(buffer: &mut [u8], used: usize, kind: u8, content: &[u8]) -> Turned
@@ -214,7 +217,7 @@ fn take_turn(buffer: &mut [u8], used: usize, frame: &[u8]) -> Turned
     if !frame_right(frame) {
         return last_turn(buffer, used);
     }
-    kind_turn(buffer, used, frame[5], &frame[DESK_HEAD..])
+    kind_turn(buffer, used, frame[KIND_AT], &frame[DESK_HEAD..])
 }
 
 // ---- the calls

@@ -1,7 +1,7 @@
 -- The desk on closed inputs: 01's worked example, line by line, and the odd ends of an input.
 -- Assumes nothing.
 use mathlib.Core.Path.{_≡_, refl}
-use mathlib.Core.List.{List, [], _∷_, _++_}
+use mathlib.Core.List.{List, [], _∷_}
 use Prim.Native.Nat.{ℕ}
 use lib.ListN.{replicate}
 use Rattle.paper.specs.Desk.{deskPrints}

@@ -1,6 +1,6 @@
 -- 01's desk program, the last part of "Worked by hand": what a frame comes to (its line, the table after it, whether the run goes on), for any bytes that
 -- were read of it, and what an input prints from its first byte to its last. Assumes nothing.
-use mathlib.Core.Bool.{Bool, true, false, cond, _&&_, _||_}
+use mathlib.Core.Bool.{Bool, true, false, cond, _&&_}
 use mathlib.Core.Option.{Option, none, some}
 use mathlib.Core.List.{List, [], _∷_, _++_}
 use Prim.Native.Nat.{ℕ, zero, suc, _+_, _-_, _/_, _%_}

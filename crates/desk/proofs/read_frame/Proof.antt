@@ -1,10 +1,10 @@
 -- `read_frame` meets its contract: four bytes at most, and no more behind them than the largest frame has.
 -- Assumes nothing.
-use mathlib.Core.Path.{_≡_, sym}
+use mathlib.Core.Path.{sym}
 use mathlib.Core.List.{_++_}
 use Prim.Native.Nat.{_≤_}
 use native.Mathlib.Omega.{arith}
-use lib.ListN.{length, drop, length-take, length-append, length-drop}
+use lib.ListN.{length, drop, length-take, length-append}
 use lib.Seq.{length-take-le}
 use borrow.Author.Needs.{needs}
 use Rattle.desk.proofs.read_frame.Statement.{statement}

@@ -1,8 +1,5 @@
 -- `step` meets its contract: the turn of the frame, and its line.
 -- Assumes nothing.
-use mathlib.Core.Path.{_≡_, refl, sym, ap, _∙_}
-use Prim.Native.Nat.{ℕ, _+_, _<_, _^_}
-use native.Mathlib.Omega.{arith}
 use borrow.Author.Needs.{needs}
 use Rattle.dymosaw.proofs.DeskLaws.{told}
 use Rattle.dymosaw.proofs.desk.step.Statement.{statement}

@@ -1,6 +1,5 @@
 -- `put_parts` meets its contract: the parts of a line one after another.
 -- Assumes nothing.
-use mathlib.Core.Path.{_≡_}
 use Prim.Native.Nat.{_+_, _≤_}
 use native.Mathlib.Omega.{arith}
 use lib.ListN.{length}
