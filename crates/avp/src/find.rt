@@ -57,7 +57,7 @@ fn key_of(vendor: u32, code: u32) -> u64
 }
 
 // The index of the first key that is `key`; the number of keys where there is none.
-fn index_of(keys: &[u64], key: u64) -> usize
+pub fn index_of(keys: &[u64], key: u64) -> usize
     ensures { λ r. ⌜ r ≡ indexOf key (now (keys .entry)) ⌝ }
 {
     let mut i = 0;

@@ -82,20 +82,3 @@ required-back Ulr = refl
 required-back Pur = refl
 required-back Nor = refl
 required-back Other = refl
-
--- ---- a walk over keys
-
-module _ (k : ℕ) (keys : List ℕ) (i : ℕ) where
-  among-step : i < length keys → member k (drop i keys) ≡ eqb k (getD keys i 0) || member k (drop (i + 1) keys)
-  unfolding member
-  among-step h = rw (add-one, drop-cons keys i 0)
-
-  pub among-here : i < length keys → {b : Bool} → b ≡ member k (drop i keys) → k ≡ getD keys i 0 → true ≡ b
-  among-here h e q = sym (e ∙ among-step h ∙ rw (eq-eqb k (getD keys i 0) q))
-
-  pub among-later : i < length keys → {b : Bool} → b ≡ member k (drop i keys) → (k ≡ getD keys i 0 → ⊥) → b ≡ member k (drop (i + 1) keys)
-  among-later h e q = e ∙ among-step h ∙ rw (ne-eqb k (getD keys i 0) q)
-
-  pub among-none : length keys ≤ i → {b : Bool} → b ≡ member k (drop i keys) → false ≡ b
-  unfolding member
-  among-none h e = sym (e ∙ rw (drop-of-length-le keys h))
