@@ -4,7 +4,7 @@ ghost use mathlib.Core.Path.{_≡_};
 ghost use Rattle.paper.specs.Profile.{commandOf};
 ghost use Rattle.paper.specs.Request.{has, usedIn};
 ghost use Rattle.paper.specs.Asked.{flagsKey};
-ghost use Rattle.request.specs.Profile.{rowOf, keyAt, Lists, notedKeys};
+ghost use Rattle.request.specs.Profile.{rowOf, keyAt, Lists, commonKeys, notedKeys};
 use avp::find::index_of;
 use paper::profile;
 use paper::profile::NOR;
@@ -68,10 +68,11 @@ pub fn command_of(code: u32) -> Command
     Command::Other
 }
 
-pub fn keys_of(c: Command) -> Keys
-    ensures { λ r. ⌜ Lists r (rowOf c) ⌝ }
+// What every command requires, in the order of 5005, and room for what a command has of its own.
+fn common_keys() -> [u64; 10]
+    ensures { λ r. ⌜ r ≡ commonKeys ⌝ }
 {
-    let mut all = [
+    [
         SESSION_ID,
         AUTH_SESSION_STATE,
         ORIGIN_HOST,
@@ -82,7 +83,13 @@ pub fn keys_of(c: Command) -> Keys
         0,
         0,
         0,
-    ];
+    ]
+}
+
+pub fn keys_of(c: Command) -> Keys
+    ensures { λ r. ⌜ Lists r (rowOf c) ⌝ }
+{
+    let mut all = common_keys();
     match c {
         Command::Ulr => {
             all[6] = RAT_TYPE;
