@@ -9,8 +9,8 @@ use native.Mathlib.Nat.{le-of-suc-le-suc, not-suc-le-zero}
 use native.Mathlib.Omega.{arith}
 use lib.ListN.{length, drop, getD, set, replicate}
 use lib.Seq.{getD-set-same, getD-set-other}
-use lib.Dec.{eqb}
-use borrow.Author.Tests.{eqb-true, eqb-false, eq-eqb, ne-eqb}
+use lib.Dec.{eqb, ltb}
+use borrow.Author.Tests.{eqb-true, eqb-false, eq-eqb, ne-eqb, ltb-true, ltb-false}
 use Rattle.dictionary.specs.Rows.{keyOf}
 use Rattle.paper.specs.Avp.{avpOf}
 use Rattle.paper.specs.Reader.{Avps, placed, avps}
@@ -59,6 +59,14 @@ no-member-index k keys h = go (member k keys) refl
     go : (b : Bool) → member k keys ≡ b → member k keys ≡ false
     go true e = let l = index-member k keys e in absurd (omega arith)
     go false e = e
+
+-- a key is among the keys where its index is below their number
+pub index-below : (k : ℕ) (keys : List ℕ) → ltb (indexOf k keys) (length keys) ≡ member k keys
+index-below k keys = go (ltb (indexOf k keys) (length keys)) refl
+  where
+    go : (b : Bool) → ltb (indexOf k keys) (length keys) ≡ b → b ≡ member k keys
+    go true e = sym (member-index k keys (ltb-true _ _ e))
+    go false e = sym (no-member-index k keys (ltb-false _ _ e))
 
 -- a search that comes to the key's place: those before it are others
 pub index-here : (k : ℕ) (keys : List ℕ) (i : ℕ) → i < length keys → ((j : ℕ) → j < i → getD keys j 0 ≡ k → ⊥) → getD keys i 0 ≡ k → i ≡ indexOf k keys

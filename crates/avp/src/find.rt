@@ -7,7 +7,6 @@ ghost use mathlib.Core.Option.{none};
 ghost use Prim.Native.Nat.{_≤_, _<_};
 ghost use lib.Dec.{eqb};
 ghost use lib.ListN.{length};
-ghost use Rattle.dictionary.specs.Rows.{keyOf};
 ghost use Rattle.paper.specs.Reader.{avps};
 ghost use Rattle.paper.specs.Find.{firstOf, firstSecond, bodyFound, originHost};
 ghost use Rattle.avp.specs.Step.{stepAt};
@@ -15,6 +14,7 @@ ghost use Rattle.avp.specs.Found.{indexOf, foundAt, foundBy, Noted, Insi
 use crate::cursor::Avp;
 use crate::cursor::Cursor;
 use crate::cursor::Step;
+use dictionary::key_of;
 use paper::layout::MESSAGE_HEADER;
 use paper::profile::ORIGIN_HOST;
 
@@ -48,16 +48,8 @@ pub fn find(s: &[u8], vendor: u32, code: u32) -> Found
     }
 }
 
-// Vendor and code as one number.
-fn key_of(vendor: u32, code: u32) -> u64
-    ensures { λ r. ⌜ r ≡ keyOf vendor code ⌝ }
-    ensures { λ r. ⌜ code < 4294967296 ⌝ }
-{
-    (vendor as u64) * 4294967296 + (code as u64)
-}
-
 // The index of the first key that is `key`; the number of keys where there is none.
-fn index_of(keys: &[u64], key: u64) -> usize
+pub fn index_of(keys: &[u64], key: u64) -> usize
     ensures { λ r. ⌜ r ≡ indexOf key (now (keys .entry)) ⌝ }
 {
     let mut i = 0;

@@ -1,6 +1,7 @@
 // The AVPs that the registry knows, and what their types mean to the reader (document 01, "The reader").
 // A lookup halves two lent arrays whose keys ascend; that they do is proved once over all rows and carried to each lookup as a `requires`.
 ghost use mathlib.Core.Path.{_≡_};
+ghost use Prim.Native.Nat.{_<_};
 ghost use Rattle.dictionary.specs.Kinds.{kindNumbered};
 ghost use Rattle.dictionary.specs.Rows.{keys, kinds, keyOf, kindIn, Lent};
 use rows::KEYS;
@@ -25,8 +26,9 @@ pub enum Kind {
 }
 
 // Vendor and code as one number, so that one comparison orders keys.
-fn key_of(vendor: u32, code: u32) -> u64
+pub fn key_of(vendor: u32, code: u32) -> u64
     ensures { λ r. ⌜ r ≡ keyOf vendor code ⌝ }
+    ensures { λ r. ⌜ code < 4294967296 ⌝ }
 {
     (vendor as u64) * 4294967296 + (code as u64)
 }

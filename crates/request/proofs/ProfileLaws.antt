@@ -8,15 +8,14 @@ use Prim.Native.Nat.{ℕ, _+_, _*_, _/_, _%_, _≤_, _<_}
 use native.Mathlib.Numerals.{add-one}
 use native.Mathlib.Omega.{arith}
 use lib.Dec.{eqb}
-use lib.ListN.{length, drop, getD, drop-of-length-le}
-use lib.Seq.{drop-cons}
+use lib.ListN.{set}
 use borrow.Author.Tests.{eq-eqb, ne-eqb, eqb-true, eqb-false}
 use Rattle.dictionary.specs.Rows.{keyOf}
-use Rattle.paper.specs.Profile.{Key, commandIn, commandOf, commands, ulr, pur, nor, ulrFlags, purFlags, norFlags}
+use Rattle.paper.specs.Profile.{Key, commandIn, commandOf, commands, ulr, pur, nor, ratType, ulrFlags, visitedPlmnId, terminalInformation, purFlags, norFlags}
 use Rattle.paper.specs.Find.{member}
 use Rattle.paper.specs.Request.{keyNumber, has, usedIn, requiredIn}
 use Rattle.paper.specs.Asked.{flagsKey}
-use Rattle.request.specs.Profile.{rowOf, keyAt}
+use Rattle.request.specs.Profile.{rowOf, keyAt, commonKeys, Lists}
 use Rattle.request.specs.declared.profile.Command.{Command}
 use Rattle.request.specs.declared.profile.Command.the-variants.{Ulr, Pur, Nor, Other}
 
@@ -83,19 +82,21 @@ required-back Pur = refl
 required-back Nor = refl
 required-back Other = refl
 
--- ---- a walk over keys
+-- ---- the array of a command: the common keys with its own behind them
 
-module _ (k : ℕ) (keys : List ℕ) (i : ℕ) where
-  among-step : i < length keys → member k (drop i keys) ≡ eqb k (getD keys i 0) || member k (drop (i + 1) keys)
-  unfolding member
-  among-step h = rw (add-one, drop-cons keys i 0)
+module _ {all : List ℕ} (e : all ≡ commonKeys) where
+  pub ulr-lists : Lists (record { required = 9; used = 10; all = set (set (set (set all 6 (keyNumber ratType)) 7 (keyNumber ulrFlags)) 8 (keyNumber visitedPlmnId)) 9 (keyNumber terminalInformation) }) (rowOf Ulr)
+  unfolding commonKeys commandOf commands commandIn requiredIn usedIn keyOf
+  ulr-lists = rw e (record { required = refl; used = refl; requiredFits = omega arith; usedFits = omega arith; few = omega arith })
 
-  pub among-here : i < length keys → {b : Bool} → b ≡ member k (drop i keys) → k ≡ getD keys i 0 → true ≡ b
-  among-here h e q = sym (e ∙ among-step h ∙ rw (eq-eqb k (getD keys i 0) q))
+  pub pur-lists : Lists (record { required = 6; used = 7; all = set all 6 (keyNumber purFlags) }) (rowOf Pur)
+  unfolding commonKeys commandOf commands commandIn requiredIn usedIn keyOf
+  pur-lists = rw e (record { required = refl; used = refl; requiredFits = omega arith; usedFits = omega arith; few = omega arith })
 
-  pub among-later : i < length keys → {b : Bool} → b ≡ member k (drop i keys) → (k ≡ getD keys i 0 → ⊥) → b ≡ member k (drop (i + 1) keys)
-  among-later h e q = e ∙ among-step h ∙ rw (ne-eqb k (getD keys i 0) q)
+  pub nor-lists : Lists (record { required = 6; used = 8; all = set (set all 6 (keyNumber norFlags)) 7 (keyNumber terminalInformation) }) (rowOf Nor)
+  unfolding commonKeys commandOf commands commandIn requiredIn usedIn keyOf
+  nor-lists = rw e (record { required = refl; used = refl; requiredFits = omega arith; usedFits = omega arith; few = omega arith })
 
-  pub among-none : length keys ≤ i → {b : Bool} → b ≡ member k (drop i keys) → false ≡ b
-  unfolding member
-  among-none h e = sym (e ∙ rw (drop-of-length-le keys h))
+  pub other-lists : Lists (record { required = 0; used = 0; all = all }) (rowOf Other)
+  unfolding commonKeys commandOf commands commandIn requiredIn usedIn keyOf
+  other-lists = rw e (record { required = refl; used = refl; requiredFits = omega arith; usedFits = omega arith; few = omega arith })

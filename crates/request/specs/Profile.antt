@@ -2,11 +2,11 @@
 -- Assumes nothing.
 use mathlib.Core.Path.{_≡_}
 use mathlib.Core.Option.{Option, none}
-use mathlib.Core.List.{List, [], _∷_, map}
+use mathlib.Core.List.{List, [], _∷_, _++_, map}
 use Prim.Native.Nat.{ℕ, _/_, _%_, _≤_}
 use lib.ListN.{length, take}
 use Rattle.paper.specs.Profile as Paper
-use Rattle.paper.specs.Profile.{Key, commandOf, ulr, pur, nor, sessionId, authSessionState, originHost, originRealm, destinationRealm, userName, ratType, ulrFlags, visitedPlmnId, terminalInformation, purFlags, norFlags}
+use Rattle.paper.specs.Profile.{Key, common, commandOf, ulr, pur, nor, sessionId, authSessionState, originHost, originRealm, destinationRealm, userName, ratType, ulrFlags, visitedPlmnId, terminalInformation, purFlags, norFlags}
 use Rattle.paper.specs.Request.{keyNumber, requiredIn, usedIn}
 use Rattle.request.specs.declared.profile.Command.{Command}
 use Rattle.request.specs.declared.profile.Command.the-variants.{Ulr, Pur, Nor, Other}
@@ -21,6 +21,10 @@ rowOf Other = none
 -- the key that a number of code stands for
 abbrev pub keyAt : ℕ → Key
 keyAt n = record { vendor = n / 4294967296; code = n % 4294967296 }
+
+-- the keys that every command requires, as numbers, and room for four more
+unfoldable pub commonKeys : List ℕ
+commonKeys = map keyNumber common ++ (0 ∷ 0 ∷ 0 ∷ 0 ∷ [])
 
 -- the keys that some command uses, as numbers
 unfoldable pub notedKeys : List ℕ

@@ -1,11 +1,11 @@
 // The application as data: its commands, and the AVPs that each of them requires and uses. The numbers are those of paper's profile.
 // A key is one number, vendor * 2^32 + code, as in the dictionary.
 ghost use mathlib.Core.Path.{_≡_};
-ghost use Rattle.paper.specs.Find.{member};
 ghost use Rattle.paper.specs.Profile.{commandOf};
 ghost use Rattle.paper.specs.Request.{has, usedIn};
 ghost use Rattle.paper.specs.Asked.{flagsKey};
-ghost use Rattle.request.specs.Profile.{rowOf, keyAt, Lists, notedKeys};
+ghost use Rattle.request.specs.Profile.{rowOf, keyAt, Lists, commonKeys, notedKeys};
+use avp::find::index_of;
 use paper::profile;
 use paper::profile::NOR;
 use paper::profile::PUR;
@@ -68,10 +68,11 @@ pub fn command_of(code: u32) -> Command
     Command::Other
 }
 
-pub fn keys_of(c: Command) -> Keys
-    ensures { λ r. ⌜ Lists r (rowOf c) ⌝ }
+// What every command requires, in the order of 5005, and room for what a command has of its own.
+fn common_keys() -> [u64; 10]
+    ensures { λ r. ⌜ r ≡ commonKeys ⌝ }
 {
-    let mut all = [
+    [
         SESSION_ID,
         AUTH_SESSION_STATE,
         ORIGIN_HOST,
@@ -82,7 +83,13 @@ pub fn keys_of(c: Command) -> Keys
         0,
         0,
         0,
-    ];
+    ]
+}
+
+pub fn keys_of(c: Command) -> Keys
+    ensures { λ r. ⌜ Lists r (rowOf c) ⌝ }
+{
+    let mut all = common_keys();
     match c {
         Command::Ulr => {
             all[6] = RAT_TYPE;
@@ -153,20 +160,6 @@ pub fn flags_key(code: u32) -> u64
     NOR_FLAGS
 }
 
-// The key is among these.
-fn is_among(key: u64, keys: &[u64]) -> bool
-    ensures { λ r. ⌜ r ≡ member key (now (keys .entry)) ⌝ }
-{
-    let mut i = 0;
-    while i < keys.len() {
-        if key == keys[i] {
-            return true;
-        }
-        i += 1;
-    }
-    false
-}
-
 // The command uses the AVP of this key.
 pub fn uses(c: Command, key: u64) -> bool
     ensures { λ r. ⌜ r ≡ has (keyAt key) (usedIn (rowOf c)) ⌝ }
@@ -174,5 +167,5 @@ pub fn uses(c: Command, key: u64) -> bool
     let keys = keys_of(c);
     let all = keys.all;
     let n = keys.used;
-    is_among(key, &all[..n])
+    index_of(&all[..n], key) < n
 }

@@ -1,3 +1,4 @@
+use mathlib.Core.Path.{refl}
 use Rattle.dictionary.specs.Rows.{keyOf}
 use borrow.Author.Needs.{needs}
 use Rattle.dictionary.proofs.key_of.Statement.{statement}
@@ -16,7 +17,7 @@ add-result c = search needs
 -- src/lib.rt:28:1
 returns : tie.Need-returns
 unfolding keyOf
-returns c = search needs
+returns c = (refl, search needs)
 
 pub key-of-spec : {M : Type 1} → statement M
 key-of-spec = tie.close (tie.spec mul-result add-result returns)

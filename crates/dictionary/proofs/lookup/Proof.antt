@@ -60,7 +60,7 @@ returns : tie.Need-returns Inv-loop μ-loop
 returns c =
     let l = c .before .before .before .before .before in
     let a = l .before .before .before .before in
-    c .kind-numbered .ensures ∙ sym (kind-at _ _ (a .pre) _ _ (Mid l) (omega arith) (omega arith ∙ l .before .key-of .ensures))
+    c .kind-numbered .ensures ∙ sym (kind-at _ _ (a .pre) _ _ (Mid l) (omega arith) (omega arith ∙ l .before .key-of .ensures .0))
 
 -- src/lib.rt:71:18
 add-lo : tie.Need-add-lo Inv-loop μ-loop

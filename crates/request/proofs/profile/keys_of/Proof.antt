@@ -1,12 +1,12 @@
 -- `request::profile::keys_of` meets its contract: the arrays are the paper's lists, case by case. Assumes nothing.
-use mathlib.Core.Path.{refl}
-use native.Mathlib.Omega.{arith}
 use Rattle.dictionary.specs.Rows.{keyOf}
-use Rattle.paper.specs.Profile.{commandOf, commands, commandIn}
-use Rattle.paper.specs.Request.{requiredIn, usedIn}
+use Rattle.request.proofs.ProfileLaws.{ulr-lists, pur-lists, nor-lists, other-lists}
 use borrow.Author.Needs.{needs}
 use Rattle.request.proofs.profile.keys_of.Statement.{statement}
 use Rattle.request.proofs.profile.keys_of.Tie as tie
+
+common-keys-requires : tie.Need-common-keys-requires
+common-keys-requires c κs = search needs
 
 enum-told : tie.Need-enum-told
 enum-told c = search needs
@@ -42,25 +42,26 @@ enum-told-4 : tie.Need-enum-told-4
 enum-told-4 c = search needs
 
 returns : tie.Need-returns
-unfolding commandOf commands commandIn requiredIn usedIn keyOf
-returns c = rw (c .enum-told .given .1) (record { required = refl; used = refl; requiredFits = omega arith; usedFits = omega arith; few = omega arith })
+unfolding keyOf
+returns c = rw (c .enum-told .given .1) (ulr-lists (c .before .before .common-keys .ensures))
 
 returns-2 : tie.Need-returns-2
-unfolding commandOf commands commandIn requiredIn usedIn keyOf
-returns-2 c = rw (c .enum-told2 .given .1) (record { required = refl; used = refl; requiredFits = omega arith; usedFits = omega arith; few = omega arith })
+unfolding keyOf
+returns-2 c = rw (c .enum-told2 .given .1) (pur-lists (c .before .before .common-keys .ensures))
 
 returns-3 : tie.Need-returns-3
-unfolding commandOf commands commandIn requiredIn usedIn keyOf
-returns-3 c = rw (c .enum-told3 .given .1) (record { required = refl; used = refl; requiredFits = omega arith; usedFits = omega arith; few = omega arith })
+unfolding keyOf
+returns-3 c = rw (c .enum-told3 .given .1) (nor-lists (c .before .before .common-keys .ensures))
 
 returns-4 : tie.Need-returns-4
-unfolding commandOf commands commandIn requiredIn usedIn keyOf
-returns-4 c = rw (c .enum-told4 .given .1) (record { required = refl; used = refl; requiredFits = omega arith; usedFits = omega arith; few = omega arith })
+unfolding keyOf
+returns-4 c = rw (c .enum-told4 .given .1) (other-lists (c .before .before .common-keys .ensures))
 
 pub keys-of-spec : {M : Type 1} → statement M
 keys-of-spec =
     tie.close
     (tie.spec
+    common-keys-requires
     enum-told
     array-write-all
     array-write-all-2

@@ -1,6 +1,8 @@
 -- `request::profile::uses` meets its contract. Assumes nothing.
-use mathlib.Core.Path.{ap, _∙_}
+use mathlib.Core.Path.{ap, ap₂, _∙_}
+use lib.Dec.{ltb}
 use Rattle.paper.specs.Find.{member}
+use Rattle.avp.proofs.SecondLaws.{index-below}
 use Rattle.request.proofs.JudgeLaws.{used-length}
 use Rattle.request.proofs.ProfileLaws.{member-used}
 use borrow.Author.Needs.{needs}
@@ -13,14 +15,17 @@ keys-of-requires c κs = search needs
 array-share-prefix-all : tie.Need-array-share-prefix-all
 array-share-prefix-all c = c .before .keys-of .ensures .usedFits
 
-slice-aggregate-is-among : tie.Need-slice-aggregate-is-among
-slice-aggregate-is-among c = used-length _ (c .before .before .keys-of .ensures)
+slice-aggregate-index-of : tie.Need-slice-aggregate-index-of
+slice-aggregate-index-of c = used-length _ (c .before .before .keys-of .ensures)
 
-is-among-requires : tie.Need-is-among-requires
-is-among-requires c κs = search needs
+index-of-requires : tie.Need-index-of-requires
+index-of-requires c κs = search needs
 
 returns : tie.Need-returns
-returns c = let k = c .before .before .before in c .is-among .ensures ∙ ap (member _) (k .keys-of .ensures .used) ∙ member-used _ (k .before .args .c)
+returns c =
+    let k = c .before .before .before in
+    let l = k .keys-of .ensures in
+    ap₂ ltb (c .index-of .ensures) (used-length _ l) ∙ index-below _ _ ∙ ap (member _) (l .used) ∙ member-used _ (k .before .args .c)
 
 pub uses-spec : {M : Type 1} → statement M
 uses-spec =
@@ -28,6 +33,6 @@ uses-spec =
     (tie.spec
     keys-of-requires
     array-share-prefix-all
-    slice-aggregate-is-among
-    is-among-requires
+    slice-aggregate-index-of
+    index-of-requires
     returns)
