@@ -4,22 +4,12 @@ Every `pub fn` of crates/*/src has an `ensures`. The public calls are those of c
 `requires`, since C and any bytes come in there, and each has its row in docs/STATEMENTS.md, "Two outcomes allowed for one input".
 With --self-test damaged copies must each be found out.
 """
-import glob
-import os
 import re
-import sys
+
+from damaged import verdict
 
 PUBLIC = "crates/dymosaw/src/"
 PAGE, HEADING = "docs/STATEMENTS.md", "## Two outcomes allowed for one input"
-
-
-def sources():
-    """The text of every file of code and of the page, by its path."""
-    texts = {}
-    for path in sorted(glob.glob("crates/*/src/**/*.rt", recursive=True)) + [PAGE]:
-        with open(path, encoding="utf-8") as file:
-            texts[path] = file.read()
-    return texts
 
 
 def closing(text, at, pair):
@@ -56,25 +46,31 @@ def is_public(path, texts):
     return path.startswith(PUBLIC) and (module == "lib" or re.search(rf"^pub mod {module};", texts[f"{PUBLIC}lib.rt"], re.M))
 
 
+def calls_of(texts):
+    """(path, name, clauses, whether it is a public call) of each public function."""
+    for path, text in texts.items():
+        if path != PAGE:
+            for name, clauses in public_functions(text):
+                yield path, name, clauses, is_public(path, texts)
+
+
 def complaints(texts):
     rows = texts[PAGE].split(HEADING)[-1]
-    wrong, calls, functions = [], 0, 0
-    for path, text in texts.items():
-        if path == PAGE:
-            continue
-        for name, clauses in public_functions(text):
-            functions += 1
-            says = [what for word, what in clauses if word == "ensures"]
-            if not says or any("⊤" in what for what in says):
-                wrong.append(f"{path}: {name} ensures nothing")
-            if not is_public(path, texts):
-                continue
-            calls += 1
-            if any(word == "requires" for word, _ in clauses):
-                wrong.append(f"{path}: {name} is a public call and has a requires")
-            if f"`dymosaw:{name}`" not in rows:
-                wrong.append(f"{path}: {name} is a public call and has no row in {PAGE}, '{HEADING[3:]}'")
-    return wrong, f"{functions} public functions have an ensures, {calls} public calls no requires"
+    wrong = []
+    for path, name, clauses, public in calls_of(texts):
+        says = [what for word, what in clauses if word == "ensures"]
+        if not says or any("⊤" in what for what in says):
+            wrong.append(f"{path}: {name} ensures nothing")
+        if public and any(word == "requires" for word, _ in clauses):
+            wrong.append(f"{path}: {name} is a public call and has a requires")
+        if public and f"`dymosaw:{name}`" not in rows:
+            wrong.append(f"{path}: {name} is a public call and has no row in {PAGE}, '{HEADING[3:]}'")
+    return wrong
+
+
+def count(texts):
+    public = [call for *_, call in calls_of(texts)]
+    return f"{len(public)} public functions have an ensures, {sum(map(bool, public))} public calls no requires"
 
 
 # Each damage: a file, one text for another, and the complaint that is due.
@@ -87,24 +83,4 @@ DAMAGES = [
 ]
 
 
-def self_test(texts):
-    for path, old, new, due in DAMAGES:
-        damaged = dict(texts, **{path: texts[path].replace(old, new, 1)})
-        found = complaints(damaged)[0]
-        if damaged == texts or not any(due in text for text in found):
-            return f"passed over: {path}: {new!r} for {old!r}; found {found}"
-    return None
-
-
-def main():
-    os.chdir(os.path.join(os.path.dirname(os.path.abspath(__file__)), ".."))
-    texts = sources()
-    wrong, count = complaints(texts)
-    if not wrong and sys.argv[1:] == ["--self-test"]:
-        passed_over = self_test(texts)
-        wrong, count = [passed_over] if passed_over else [], f"{len(DAMAGES)} damages found"
-    print("\n".join(wrong) or f"contracts: {count}")
-    return 1 if wrong else 0
-
-
-sys.exit(main())
+verdict("contracts", ["crates/*/src/**/*.rt", PAGE], complaints, DAMAGES, count)

@@ -6,10 +6,9 @@ number of these is a fault, unless ELSEWHERE says why it stands there. Comments 
 include/dymosaw.h gives to C are those of the layout. With --self-test damaged copies must each be found out.
 """
 import fnmatch
-import glob
-import os
 import re
-import sys
+
+from damaged import verdict
 
 PROFILE = {"rt": "crates/paper/src/profile.rt", "antt": "crates/paper/specs/Profile.antt"}
 LAYOUT = {"rt": "crates/paper/src/layout.rt", "antt": "crates/paper/specs/Layout.antt"}
@@ -37,15 +36,6 @@ ELSEWHERE = [
 # Names of the layout that C has under its own.
 IN_C = {"LEAST_REQUEST": "LEAST_REQUEST", "MOST_REQUEST": "MOST_REQUEST", "LEAST_ANSWER": "LEAST_ANSWER", "LEAST_CANCEL": "CANCEL_SIZE", "ENTRY": "ENTRY_SIZE",
         "MOST_NAME": "MOST_NAME"}
-
-
-def sources():
-    paths = glob.glob("crates/*/src/**/*.rt", recursive=True) + glob.glob("crates/*/specs/**/*.antt", recursive=True) + [HEADER]
-    texts = {}
-    for path in sorted(paths):
-        with open(path, encoding="utf-8") as file:
-            texts[path] = file.read()
-    return texts
 
 
 def numbers(path, text):
@@ -126,25 +116,8 @@ DAMAGES = [
 ]
 
 
-def self_test(texts):
-    for path, old, new, *due in DAMAGES:
-        damaged = dict(texts, **{path: texts[path].replace(old, new, 1)})
-        found = complaints(damaged)
-        if damaged == texts or not any(all(word in text for word in due) for text in found):
-            return f"passed over: {path}: {new!r} for {old!r}; found {found}"
-    return None
+def count(texts):
+    return f"{len(homes(texts)['rt'])} numbers, each once in {len(texts)} files"
 
 
-def main():
-    os.chdir(os.path.join(os.path.dirname(os.path.abspath(__file__)), ".."))
-    texts = sources()
-    wrong = complaints(texts)
-    count = f"{len(homes(texts)['rt'])} numbers, each once in {len(texts)} files"
-    if not wrong and sys.argv[1:] == ["--self-test"]:
-        passed_over = self_test(texts)
-        wrong, count = [passed_over] if passed_over else [], f"{len(DAMAGES)} damages found"
-    print("\n".join(wrong) or f"numbers_once: {count}")
-    return 1 if wrong else 0
-
-
-sys.exit(main())
+verdict("numbers_once", ["crates/*/src/**/*.rt", "crates/*/specs/**/*.antt", HEADER], complaints, DAMAGES, count)

@@ -58,6 +58,25 @@ pub struct Record {
 }
 
 impl Record {
+    /// Change number 7, both subscriptions, and no restriction, PLMN, node or IMEI.
+    pub fn plain(imsi: &str) -> Record {
+        Record {
+            imsi: imsi.to_string(),
+            change: 7,
+            subscription: 3,
+            restriction: 0,
+            plmns: Vec::new(),
+            purged: 0,
+            mme: Vec::new(),
+            sgsn: Vec::new(),
+            uplink: 1000,
+            downlink: 2000,
+            imei: String::new(),
+        }
+    }
+}
+
+impl Record {
     /// The 256 bytes. Counts are written as they are; what does not fit its field is left out.
     pub fn bytes(&self) -> Vec<u8> {
         let mut bytes = vec![0; RECORD];

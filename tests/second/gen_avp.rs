@@ -5,6 +5,7 @@ use super::keys::{Key, Keys};
 use crate::build::{avp, M, V};
 use crate::dictionary::Kind;
 use crate::random::Random;
+use crate::reader::head_size;
 
 #[derive(Clone)]
 pub enum Body {
@@ -64,11 +65,7 @@ impl Piece {
     }
 
     pub fn header(&self) -> usize {
-        if self.flags & V != 0 {
-            12
-        } else {
-            8
-        }
+        head_size(self.flags)
     }
 
     pub fn bytes(&self) -> Vec<u8> {

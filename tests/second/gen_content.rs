@@ -2,11 +2,12 @@
 // without M, known ones without effect, values that document 01 refuses or only just takes.
 
 use super::avp::{all_bytes, insert, nest, sample, unknown, Body, Piece};
-use super::keys::{Command, Key, Keys};
+use super::keys::{Key, Keys};
 use super::request::{imei, proxy_info, terminal_information, Plan};
 use super::table;
 use crate::build::{M, V};
 use crate::random::Random;
+use crate::request::Command;
 
 /// The first top-level AVP of this key.
 fn find(plan: &mut Plan, key: Key) -> Option<&mut Piece> {
@@ -16,7 +17,7 @@ fn find(plan: &mut Plan, key: Key) -> Option<&mut Piece> {
 /// The names of the AVPs that the command uses; those that may be absent stand twice, to be drawn
 /// as often as the others.
 fn used(plan: &Plan) -> Vec<&'static str> {
-    [plan.kind.required(), plan.kind.optional(), plan.kind.optional()].concat()
+    [plan.kind.required(), plan.kind.used_when_there(), plan.kind.used_when_there()].concat()
 }
 
 /// A second of one or two AVPs that the command uses, alike or with other data, the key perhaps
@@ -89,7 +90,7 @@ pub fn unknown_twice(random: &mut Random, keys: &Keys, plan: &mut Plan) {
 /// One or two of an AVP that only another command uses: it has no effect here.
 pub fn used_by_others(random: &mut Random, keys: &Keys, plan: &mut Plan) {
     let commands = [Command::Ulr, Command::Pur, Command::Nor];
-    let all = commands.map(|kind| [kind.required(), kind.optional()].concat()).concat();
+    let all = commands.map(|kind| [kind.required(), kind.used_when_there()].concat()).concat();
     let mine = used(plan);
     let others: Vec<&str> = all.into_iter().filter(|name| !mine.contains(name)).collect();
     let name = random.pick(&others);

@@ -2,11 +2,12 @@
 // one, to put one in and to take one out.
 
 use super::avp::{all_bytes, at, Body, Piece};
-use super::keys::{Command, Key, Keys};
+use super::keys::{Key, Keys};
 use crate::build::message;
 use crate::protocol::Case;
 use crate::random::Random;
 use crate::reader::{Header, HEADER};
+use crate::request::Command;
 
 /// "inside eight others"
 const DEEPEST: usize = 8;
@@ -144,7 +145,7 @@ impl Draft {
 pub fn uses(kind: Command, keys: &Keys, level: Level, piece: &Piece) -> bool {
     let is = |name: &str| piece.has(keys.named(name));
     match level {
-        Level::Top => is("Proxy-Info") || [kind.required(), kind.optional()].concat().into_iter().any(is),
+        Level::Top => is("Proxy-Info") || [kind.required(), kind.used_when_there()].concat().into_iter().any(is),
         Level::Terminal => kind != Command::Pur && is("IMEI"),
         Level::Elsewhere => false,
     }

@@ -1,8 +1,9 @@
 // The dictionary as the generator draws from it: every key with its kind, the keys by kind, and
-// the AVPs that each command uses by document 01.
+// those that a command does not use.
 
 use crate::dictionary::{Dictionary, Kind};
 use crate::random::Random;
+use crate::request::Command;
 use std::collections::BTreeMap;
 
 /// The vendor of TS 29.272.
@@ -13,53 +14,6 @@ const CODES: u32 = 5000;
 
 /// Vendors of which the dictionary has no AVP.
 const STRANGERS: [u32; 5] = [1, 9, 10416, 13019, 0xFFFF_FFFF];
-
-#[derive(Clone, Copy, PartialEq, Eq)]
-pub enum Command {
-    Ulr,
-    Pur,
-    Nor,
-}
-
-impl Command {
-    /// The command code: Update-Location 316, Purge-UE 321, Notify 323.
-    pub fn code(self) -> u32 {
-        match self {
-            Command::Ulr => 316,
-            Command::Pur => 321,
-            Command::Nor => 323,
-        }
-    }
-
-    /// "Required: Session-Id, ... User-Name; for ULR also RAT-Type, ULR-Flags, Visited-PLMN-Id."
-    pub fn required(self) -> &'static [&'static str] {
-        match self {
-            Command::Ulr => &REQUIRED,
-            _ => &REQUIRED[0..6],
-        }
-    }
-
-    /// "Used when there: ... PUR-Flags in PUR; NOR-Flags in NOR; Terminal-Information in ULR and NOR".
-    pub fn optional(self) -> &'static [&'static str] {
-        match self {
-            Command::Ulr => &["Terminal-Information"],
-            Command::Pur => &["PUR-Flags"],
-            Command::Nor => &["Terminal-Information", "NOR-Flags"],
-        }
-    }
-}
-
-const REQUIRED: [&str; 9] = [
-    "Session-Id",
-    "Auth-Session-State",
-    "Origin-Host",
-    "Origin-Realm",
-    "Destination-Realm",
-    "User-Name",
-    "RAT-Type",
-    "ULR-Flags",
-    "Visited-PLMN-Id",
-];
 
 #[derive(Clone, Copy)]
 pub struct Key {
@@ -119,7 +73,7 @@ impl Keys {
     pub fn unused(&self, random: &mut Random, command: Command) -> Key {
         loop {
             let key = random.pick(&self.known);
-            let mut used = command.required().iter().chain(command.optional());
+            let mut used = command.required().iter().chain(command.used_when_there());
             if !used.any(|name| self.is(key, name)) && !self.is(key, "Proxy-Info") {
                 return key;
             }

@@ -3,11 +3,12 @@
 // of document 01 comes up often.
 
 use super::avp::{all_bytes, insert, sample, unknown, Piece};
-use super::keys::{Command, Key, Keys};
+use super::keys::{Key, Keys};
 use super::table;
 use crate::build::{message, Record};
 use crate::protocol::Case;
 use crate::random::Random;
+use crate::request::Command;
 
 /// "application 16777251".
 const S6A: u32 = 16_777_251;
@@ -203,7 +204,7 @@ fn visited(random: &mut Random, subscriber: Option<&Record>) -> [u8; 3] {
 /// What may be there besides: the AVPs that the command uses when there, usual companions of a
 /// request, known AVPs without effect, unknown ones without M.
 fn optional(random: &mut Random, keys: &Keys, kind: Command, avps: &mut Vec<Piece>) {
-    for name in kind.optional() {
+    for name in kind.used_when_there() {
         if random.chance(3, 5) {
             let piece = optional_avp(random, keys, name);
             insert(random, avps, piece, false);

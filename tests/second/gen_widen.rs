@@ -4,12 +4,13 @@
 
 use super::avp::{insert, nest, sample, unknown, Body, Piece};
 use super::draft::{uses, Draft, Level};
-use super::keys::{Command, Keys};
+use super::keys::Keys;
 use super::{request, table};
 use crate::build::{M, V};
 use crate::dictionary::{Dictionary, Kind};
 use crate::protocol::Case;
 use crate::random::Random;
+use crate::request::Command;
 
 /// "Request 20 to 4,096 bytes."
 const MOST: usize = 4096;

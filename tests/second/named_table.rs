@@ -14,22 +14,6 @@ pub struct Table {
     edits: Vec<Line>,
 }
 
-fn record(imsi: &str) -> Record {
-    Record {
-        imsi: imsi.to_string(),
-        change: 7,
-        subscription: 3,
-        restriction: 0,
-        plmns: Vec::new(),
-        purged: 0,
-        mme: Vec::new(),
-        sgsn: Vec::new(),
-        uplink: 1000,
-        downlink: 2000,
-        imei: String::new(),
-    }
-}
-
 fn small(text: &str) -> Result<u8, Fault> {
     text.parse::<u8>().map_err(|_| Fault::from(format!("`{text}` does not fit a byte")))
 }
@@ -73,7 +57,7 @@ impl Table {
         let (options, given) = line.options(1);
         match (line.first(), given.as_slice()) {
             ("record", [imsi]) => {
-                let mut one = record(imsi);
+                let mut one = Record::plain(imsi);
                 for (key, value) in options {
                     change(&mut one, key, value)?;
                 }
@@ -83,7 +67,7 @@ impl Table {
                 only(line, &options, &["from"])?;
                 let from = options.get("from").and_then(|imsi| imsi.parse::<u64>().ok());
                 let from = from.ok_or_else(|| Fault::from("`records N from=IMSI`".to_string()))?;
-                self.records.extend((0..u64::from(number(count)?)).map(|i| record(&(from + i).to_string())));
+                self.records.extend((0..u64::from(number(count)?)).map(|i| Record::plain(&(from + i).to_string())));
             }
             ("set", [_, _, ..]) | ("table", _) => self.edits.push(line.clone()),
             _ => return line.fault("not a line about the table"),

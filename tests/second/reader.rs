@@ -43,6 +43,15 @@ impl Header {
     }
 }
 
+/// Bytes of an AVP's header: 8, 12 with V.
+pub fn head_size(flags: u8) -> usize {
+    if flags & V != 0 {
+        12
+    } else {
+        8
+    }
+}
+
 /// One AVP of a message: where it starts, where what encloses it ends, and its header.
 #[derive(Clone, Copy, PartialEq, Eq, Debug)]
 pub struct Avp {
@@ -72,13 +81,8 @@ impl Avp {
         self.flags & M != 0
     }
 
-    /// Bytes of the header: 8, 12 with V.
     pub fn head(&self) -> usize {
-        if self.flags & V != 0 {
-            12
-        } else {
-            8
-        }
+        head_size(self.flags)
     }
 
     /// The length with padding: an AVP of length 23 takes 24 bytes.

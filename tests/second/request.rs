@@ -15,13 +15,17 @@ pub enum Command {
 }
 
 impl Command {
-    fn of(code: u32) -> Option<Command> {
-        match code {
-            316 => Some(Command::Ulr),
-            321 => Some(Command::Pur),
-            323 => Some(Command::Nor),
-            _ => None,
+    /// The command code: Update-Location 316, Purge-UE 321, Notify 323.
+    pub fn code(self) -> u32 {
+        match self {
+            Command::Ulr => 316,
+            Command::Pur => 321,
+            Command::Nor => 323,
         }
+    }
+
+    fn of(code: u32) -> Option<Command> {
+        [Command::Ulr, Command::Pur, Command::Nor].into_iter().find(|command| command.code() == code)
     }
 
     pub fn name(self) -> &'static str {
@@ -34,7 +38,7 @@ impl Command {
 
     /// "Required: Session-Id, Auth-Session-State (any value), Origin-Host, Origin-Realm, Destination-Realm,
     /// User-Name; for ULR also RAT-Type, ULR-Flags, Visited-PLMN-Id."
-    fn required(self) -> &'static [&'static str] {
+    pub fn required(self) -> &'static [&'static str] {
         const ULR: [&str; 9] = [
             "Session-Id",
             "Auth-Session-State",
@@ -54,7 +58,7 @@ impl Command {
 
     /// "Used when there: Proxy-Info; PUR-Flags in PUR; NOR-Flags in NOR; Terminal-Information in ULR and NOR".
     /// Proxy-Info stands apart, since a second one is no fault.
-    fn used_when_there(self) -> &'static [&'static str] {
+    pub fn used_when_there(self) -> &'static [&'static str] {
         match self {
             Command::Ulr => &["Terminal-Information"],
             Command::Pur => &["PUR-Flags"],

@@ -36,19 +36,7 @@ fn hex(text: &str) -> Vec<u8> {
 }
 
 fn record() -> Record {
-    Record {
-        imsi: IMSI.to_string(),
-        change: 7,
-        subscription: 3,
-        restriction: 0,
-        plmns: Vec::new(),
-        purged: 0,
-        mme: Vec::new(),
-        sgsn: Vec::new(),
-        uplink: 0x01020304,
-        downlink: 0x05060708,
-        imei: String::new(),
-    }
+    Record { uplink: 0x01020304, downlink: 0x05060708, ..Record::plain(IMSI) }
 }
 
 fn nodes(mme: &str, sgsn: &str, purged: u8) -> Record {

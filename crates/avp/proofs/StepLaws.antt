@@ -10,7 +10,6 @@ use lib.ListN.{length, drop, getD, length-drop, drop-of-length-le}
 use lib.Dec.{leb}
 use borrow.Author.Tests.{le-leb, lt-leb, leb-true, leb-false}
 use Rattle.wire.specs.Number.{numAt}
-use Rattle.wire.specs.Put.{part}
 use Rattle.paper.specs.Avp.{headSize, padded, flagsOf, lengthOf, hasV, framed, bodyOf}
 use Rattle.paper.specs.Reader.{Avps, whole, broken, more, placed, stump, avps}
 use Rattle.paper.proofs.AvpLaws.{headSize-least, padded-least, framed-sizes, framed-takes, sizes-framed, short-unframed, outside-unframed, stump-unframed, code-at, flags-at, length-at, vendor-at, body-at, after-at, framed-at}

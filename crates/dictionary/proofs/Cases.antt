@@ -2,7 +2,6 @@
 use mathlib.Core.Path.{_≡_, refl}
 use mathlib.Core.Bool.{Bool, true, false, _&&_, not}
 use mathlib.Core.List.{List, [], _∷_}
-use Prim.Native.Nat.{ℕ}
 use lib.Dec.{eqb}
 use Rattle.dictionary.specs.declared.Kind.{Kind}
 use Rattle.dictionary.specs.declared.Kind.the-variants.{Four, Eight, Any, Group, Closed, Unknown}

@@ -14,9 +14,9 @@ use Rattle.paper.specs.declared.Extra.the-variants as Extra
 use Rattle.paper.specs.Avp.{bit}
 use Rattle.paper.specs.Layout.{ambrAt}
 use Rattle.paper.specs.Profile.{Command, commands, commandIn, commandOf, ulr, pur, nor}
-use Rattle.paper.specs.Request.{commandCode, numberOf}
+use Rattle.paper.specs.Request.{commandCode}
 use Rattle.paper.specs.Asked.{flagsKey, askedOf}
-use Rattle.paper.specs.Procedures.{Done, isUlr, isPur, skipSubscriberData, restrictionOf}
+use Rattle.paper.specs.Procedures.{Done, skipSubscriberData, restrictionOf}
 use Rattle.paper.specs.Outcome.{successItems}
 use Rattle.paper.specs.Shown.{extraOf}
 use Rattle.paper.proofs.ReplyShown.{ula-shown, pua-shown, noa-shown}

@@ -9,7 +9,7 @@ use Rattle.wire.specs.Put.{put}
 use Rattle.paper.specs.declared.Line.{Line}
 use Rattle.paper.specs.Layout.{mostRecords}
 use Rattle.paper.specs.Table.{recordAt}
-use Rattle.paper.specs.Desk.{Turn, turn, lineBytes}
+use Rattle.paper.specs.Desk.{Turn, lineBytes}
 use Rattle.dymosaw.specs.declared.desk.Desk.{Desk}
 use Rattle.dymosaw.specs.declared.desk.Turned.{Turned}
 use Rattle.dymosaw.specs.declared.desk.Stepped.{Stepped}

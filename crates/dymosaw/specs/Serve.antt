@@ -1,13 +1,13 @@
 -- What the answer of a request's call stands for: 01's number, the answer's length, and what the answer says, for each case; and what the inner functions ask.
 -- Assumes nothing.
 use mathlib.Core.Path.{_≡_}
-use mathlib.Core.Bool.{true, cond, _&&_, _||_, not}
+use mathlib.Core.Bool.{cond, _&&_, _||_, not}
 use mathlib.Core.Option.{Option, none, some}
 use mathlib.Core.List.{List}
-use Prim.Native.Nat.{ℕ, _+_, _*_, _^_, _≤_}
+use Prim.Native.Nat.{ℕ, _+_, _*_, _^_}
 use lib.Dec.{ltb}
 use lib.ListN.{length, getD}
-use Rattle.paper.specs.Layout.{leastAnswer, longestAnswer, cancelSize, leastRequest, mostRequest, entrySize}
+use Rattle.paper.specs.Layout.{leastAnswer, cancelSize, leastRequest, mostRequest, entrySize}
 use Rattle.paper.specs.Table.{valid}
 use Rattle.paper.specs.Request.{isName, isRequest, refusal}
 use Rattle.paper.specs.Answer as Answer

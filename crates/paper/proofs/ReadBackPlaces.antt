@@ -3,35 +3,31 @@
 use mathlib.Core.Path.{_≡_, refl, sym, ap, _∙_, subst}
 use mathlib.Core.Bool.{Bool, true, false, cond, _&&_, _||_}
 use mathlib.Core.Option.{Option, none, some}
-use mathlib.Core.List.{List, [], _∷_, map}
-use Prim.Native.Nat.{ℕ, _+_, _-_, _^_, _≤_, _<_}
+use mathlib.Core.List.{List, [], _∷_}
+use Prim.Native.Nat.{ℕ, _-_, _^_, _≤_, _<_}
 use native.Mathlib.Omega.{arith}
 use lib.Dec.{ltb, eqb}
-use lib.ListN.{length, take, drop}
-use lib.Seq.{drop-drop}
+use lib.ListN.{length}
 use borrow.Author.Tests.{eqb-true, ltb-true}
 use Rattle.wire.specs.Number.{Bytes}
-use Rattle.wire.specs.Put.{part}
 use Rattle.wire.proofs.ListLaws.{and-true-left, and-true-right}
 use Rattle.wire.proofs.NumberLaws.{numAt-lt, bytes-part}
 use Rattle.dictionary.specs.declared.Kind.{Kind}
 use Rattle.dictionary.specs.declared.Kind.the-variants.{Four, Eight, Any, Group, Closed, Unknown}
 use Rattle.dictionary.specs.Rows.{kindOf}
 use Rattle.paper.specs.Avp.{Avp, Writable, flagsOf, bareOf, flagsFor}
-use Rattle.paper.specs.Reader.{Placed, Avps, Faulty, mostGroups}
-use Rattle.paper.specs.Find.{firstSecond}
+use Rattle.paper.specs.Reader.{Placed, Avps, Faulty}
 use Rattle.paper.specs.Widened.{shownOf}
-use Rattle.paper.specs.Profile.{Key, ulr, pur, nor, commands, commandIn, commandOf, userName, originHost, visitedPlmnId, terminalInformation, imei}
-use Rattle.paper.specs.Request.{commandCode, avpsOf, viewOf, find, inside, isThere, has, used, requiredIn, terminal, imeiOf, ifUsed, keyNumber, earlier, repeated, imsiDigits, isName, threeBytes, imeiDigits}
+use Rattle.paper.specs.Profile.{Key, ulr, pur, nor, commands, commandIn, commandOf, userName, originHost, visitedPlmnId}
+use Rattle.paper.specs.Request.{commandCode, avpsOf, viewOf, find, isThere, requiredIn, imeiOf, ifUsed, repeated, imsiDigits, isName, threeBytes, imeiDigits}
 use Rattle.paper.specs.Refusals.{Said, wrong}
 use Rattle.paper.specs.Shown.{stretch}
-use Rattle.paper.specs.ShownIn.{StandsIn, Standing}
+use Rattle.paper.specs.ShownIn.{Standing}
 use Rattle.paper.specs.ReadBack.{octet, ofKey, tells, headOf, emptyOf, firstLacking, firstWrong, failedBy, isShown, FailedRead}
 use Rattle.paper.proofs.AvpLaws.{headSize-most}
-use Rattle.paper.proofs.AvpsLaws.{cond-cases, firstOf-each, firstSecond-each}
+use Rattle.paper.proofs.AvpsLaws.{cond-cases}
 use Rattle.paper.proofs.OptionLaws.{Holds, holds-orElse}
-use Rattle.paper.proofs.StandsIn.{AllIn, stretch-rest, part-all-in, inside-all-in, unsupported-in}
-use Rattle.paper.proofs.ShownLaws.{view-shows}
+use Rattle.paper.proofs.ShownLaws.{none-standing, used-standing, imei-standing, repeated-standing, view-shows}
 use Rattle.paper.proofs.WrittenLaws.{vendor-fits, vendor-without-V, read-writable, for-key-writable}
 use Rattle.paper.proofs.ReadBackAvps.{Own}
 
@@ -41,77 +37,23 @@ withFailed s = tells 5001 s || (tells 5004 s || (tells 5005 s || (tells 5009 s |
 
 -- ---- places
 
-none-standing : (m : List ℕ) → Standing m none
-none-standing m p e = let z : _≡_ {A = ℕ} 0 1 = cc in absurd (omega arith)
-
-earlier-standing : (m : List ℕ) (o q : Option Placed) → Standing m o → Standing m q → Standing m (earlier o q)
-unfolding earlier
-earlier-standing m none q f g = g
-earlier-standing m (some o) none f g = f
-earlier-standing m (some o) (some q) f g = cond-cases (Standing m) (ltb (q .at) (o .at)) (λ e. g) (λ e. f)
-
-inside-standing : (m : List ℕ) (o : Option Placed) → Standing m o → AllIn m (inside o)
-inside-standing m none t = tt
-inside-standing m (some p) t = inside-all-in m p (t p refl)
-
 module _ (m : List ℕ) (least : 20 ≤ length m) where
-  all-in : AllIn m (avpsOf m)
-  unfolding avpsOf
-  all-in = rw (stretch-rest 20 m) at (part-all-in m 20 (length m - 20) (omega arith))
-
-  found-standing : (k : Key) (l : Avps) → AllIn m l → Standing m (find k l)
-  found-standing k l a = firstOf-each (StandsIn m) (λ p. Unit {0}) (k .vendor) (k .code) l a
-
-  used-standing : (k : Key) → Standing m (ifUsed k m)
-  used-standing k = cond-cases (Standing m) (has k (used m)) (λ e. found-standing k (avpsOf m) all-in) (λ e. none-standing m)
-
-  terminal-in : AllIn m (terminal m)
-  unfolding terminal
-  terminal-in =
-      cond-cases (AllIn m) (has terminalInformation (used m))
-      (λ e. inside-standing m (find terminalInformation (avpsOf m)) (found-standing terminalInformation (avpsOf m) all-in)) (λ e. tt)
-
-  imei-standing : Standing m (imeiOf m)
-  imei-standing = found-standing imei (terminal m) terminal-in
-
-  unknown-standing : Standing m (viewOf m .unsupported)
-  unfolding viewOf
-  unknown-standing = rw (stretch-rest 20 m) at (unsupported-in kindOf (λ vendor code x. x) mostGroups m 20 (length m - 20) (omega arith))
-
-  second-standing : (keys : List ℕ) (l : Avps) → AllIn m l → Standing m (firstSecond keys [] l)
-  second-standing keys l a = firstSecond-each (StandsIn m) (λ p. Unit {0}) keys [] l a
-
-  repeated-standing : Standing m (repeated m)
-  unfolding repeated
-  repeated-standing =
-      earlier-standing m (firstSecond (map keyNumber (used m)) [] (avpsOf m)) (firstSecond (keyNumber imei ∷ []) [] (terminal m))
-      (second-standing (map keyNumber (used m)) (avpsOf m) all-in) (second-standing (keyNumber imei ∷ []) (terminal m) terminal-in)
-
   wrong-standing : Standing m (firstWrong m)
   unfolding firstWrong
   wrong-standing =
-      cond-cases (Standing m) (wrong imsiDigits (ifUsed userName m)) (λ e. used-standing userName)
-      (λ e. cond-cases (Standing m) (wrong isName (ifUsed originHost m)) (λ f. used-standing originHost)
-      (λ f. cond-cases (Standing m) (wrong threeBytes (ifUsed visitedPlmnId m)) (λ g. used-standing visitedPlmnId)
-      (λ g. cond-cases (Standing m) (wrong imeiDigits (imeiOf m)) (λ h. imei-standing) (λ h. none-standing m))))
+      cond-cases (Standing m) (wrong imsiDigits (ifUsed userName m)) (λ e. used-standing m least userName)
+      (λ e. cond-cases (Standing m) (wrong isName (ifUsed originHost m)) (λ f. used-standing m least originHost)
+      (λ f. cond-cases (Standing m) (wrong threeBytes (ifUsed visitedPlmnId m)) (λ g. used-standing m least visitedPlmnId)
+      (λ g. cond-cases (Standing m) (wrong imeiDigits (imeiOf m)) (λ h. imei-standing m least) (λ h. none-standing m))))
 
   -- a fault shows the head of what stands at its place
-  part-behind : (at n : ℕ) → 20 ≤ at → part (at - 20) n (drop 20 m) ≡ part at n m
-  part-behind at n h = let e : 20 + (at - 20) ≡ at = omega arith in ap (take n) (drop-drop (at - 20) 20 m ∙ ap (λ (k : ℕ). drop k m) e)
-
-  fault-shows : (f : Faulty) → viewOf m .fault ≡ some f → f .shown .avp ≡ bareOf (stretch m (f .shown .at) (f .shown .end))
-  unfolding viewOf
-  fault-shows f e =
-      let s = view-shows kindOf (λ vendor code x. x) mostGroups 20 (drop 20 m) .fault f e in
-      s .avp ∙ ap bareOf (part-behind (f .shown .at) (f .shown .end - f .shown .at) (s .from))
-
   fault-head : (f : Faulty) → viewOf m .fault ≡ some f → headOf (viewOf m .fault) ≡ some (bareOf (stretch m (f .shown .at) (f .shown .end)))
   unfolding headOf bareOf
   fault-head f e =
-      ap headOf e ∙ ap (λ (a : Avp). some (record { code = a .code; flags = a .flags; vendor = a .vendor; body = [] })) (fault-shows f e)
+      ap headOf e ∙ ap (λ (a : Avp). some (record { code = a .code; flags = a .flags; vendor = a .vendor; body = [] })) (view-shows m least .fault f e .avp)
 
   pub failed-read : (s : Said) → isShown (failedBy m s) ≡ withFailed s → FailedRead m s
-  failed-read s e = record { there = e; unknown = unknown-standing; second = repeated-standing; wrong-value = wrong-standing; fault = fault-head }
+  failed-read s e = record { there = e; unknown = view-shows m least .unsupported; second = repeated-standing m least; wrong-value = wrong-standing; fault = fault-head }
 
 -- ---- what is shown can be written
 
@@ -197,7 +139,7 @@ pub failed-writable : (m : List ℕ) → 20 ≤ length m → Bytes m → (s : Sa
 unfolding failedBy
 failed-writable m least b s =
     let head = fault-writable m least b in
-    cond-cases (Holds Writable) (tells 5001 s) (λ p. standing-writable m b (viewOf m .unsupported) (unknown-standing m least))
+    cond-cases (Holds Writable) (tells 5001 s) (λ p. standing-writable m b (viewOf m .unsupported) (view-shows m least .unsupported))
     (λ p. cond-cases (Holds Writable) (tells 5004 s) (λ q. holds-orElse Writable (headOf (viewOf m .fault)) (shownOf (firstWrong m)) head (standing-writable m b (firstWrong m) (wrong-standing m least)))
     (λ q. cond-cases (Holds Writable) (tells 5005 s) (λ t. lacking-writable (requiredIn (commandOf (commandCode m))) (avpsOf m) (required-own (commandCode m)))
     (λ t. cond-cases (Holds Writable) (tells 5009 s) (λ u. standing-writable m b (repeated m) (repeated-standing m least))

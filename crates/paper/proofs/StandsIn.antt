@@ -1,24 +1,19 @@
--- AVPs of a message stand in its own bytes: those of any stretch of it, those inside an AVP, and what a view shows at any depth.
+-- AVPs of a message stand in its own bytes: those of any stretch of it, and those inside an AVP.
 -- Assumes nothing.
-use mathlib.Core.Path.{_≡_, sym, ap, _∙_, subst}
-use mathlib.Core.Bool.{Bool, true, false, cond}
-use mathlib.Core.Option.{Option, none, some}
-use mathlib.Core.List.{List}
-use Prim.Native.Nat.{ℕ, zero, suc, _+_, _-_, _≤_}
+use mathlib.Core.Path.{_≡_, sym, ap, _∙_}
+use mathlib.Core.List.{List, []}
+use Prim.Native.Nat.{ℕ, _+_, _-_, _≤_, _<_}
 use native.Mathlib.Omega.{arith}
 use lib.ListN.{length, drop, length-take, length-drop}
 use lib.Seq.{take-all}
 use Rattle.wire.specs.Put.{part}
 use Rattle.wire.proofs.ListLaws.{part-part, length-part}
-use Rattle.dictionary.specs.Kinds.{sizeRight}
-use Rattle.dictionary.specs.declared.Kind.{Kind}
-use Rattle.dictionary.specs.declared.Kind.the-variants.{Four, Eight, Any, Group, Closed, Unknown}
-use Rattle.paper.specs.Avp.{Avp, hasM, headSize, flagsOf, lengthOf, bodyOf, avpOf}
-use Rattle.paper.specs.Reader.{Placed, Avps, whole, broken, more, avps, View, orElse, _then_, nothing, faulty, unknown, bodyAt, bare, single, sized, group, each, byKind, kindOf, seenOf, viewAvp, view}
+use Rattle.paper.specs.Avp.{Avp, headSize, flagsOf, lengthOf, bodyOf, avpOf, bareOf}
+use Rattle.paper.specs.Reader.{Placed, Avps, avps, bodyAt, bare}
 use Rattle.paper.specs.Shown.{stretch}
-use Rattle.paper.specs.ShownIn.{StandsIn, Standing}
+use Rattle.paper.specs.ShownIn.{LiesIn, StandsIn, HeadIn}
 use Rattle.paper.proofs.AvpLaws.{framed-sizes, padded-least, length-body}
-use Rattle.paper.proofs.AvpsLaws.{Each, each-map, Stands, avps-stand, stands-end, stands-least, stands-avp}
+use Rattle.paper.proofs.AvpsLaws.{Each, each-map, Stands, Breaks, avps-stand, stands-end, stands-least, stands-avp, breaks-end, breaks-avp}
 
 -- ---- a stretch of the message
 
@@ -32,28 +27,53 @@ pub stretch-rest : (at : ℕ) (m : List ℕ) → stretch m at (length m) ≡ dro
 stretch-rest at m = take-all (length m - at) (drop at m) (rw length-drop (omega arith))
 
 -- what stands in a part of the message stands in the message
-pub stands-in : (m : List ℕ) (at n : ℕ) → at + n ≤ length m → (p : Placed) → Stands at (part at n m) p → StandsIn m p
-stands-in m at n fits p t =
-    let f = t .from in
-    let e = stands-end at (part at n m) p t ∙ ap (λ (k : ℕ). at + k) (length-part at n m fits) in
-    let l = rw (length-part at n m fits) at (stands-least at (part at n m) p t) in
-    let i : at + (p .at - at) ≡ p .at = omega arith in
-    let j : n - (p .at - at) ≡ p .end - p .at = omega arith in
-    let s : drop (p .at - at) (part at n m) ≡ stretch m (p .at) (p .end) = part-drop at n (p .at - at) m (omega arith) ∙ rw (i, j) in
-    record {
-      lies = record { order = omega arith; fits = omega arith };
-      right = rw s at (t .right);
-      avp = stands-avp at (part at n m) p t ∙ ap avpOf s;
-    }
+module _ (m : List ℕ) (at n : ℕ) (fits : at + n ≤ length m) where
+  -- a place of the part, by places of the message
+  lies-in : (q to : ℕ) → q < at + length (part at n m) → to ≡ at + length (part at n m) → LiesIn m q to
+  lies-in q to b e =
+      let l = length-part at n m fits in
+      record { order = omega arith; fits = omega arith }
 
--- every AVP of the list stands in `m`
+  rest-in : (q to : ℕ) → at ≤ q → q < at + length (part at n m) → to ≡ at + length (part at n m) → drop (q - at) (part at n m) ≡ stretch m q to
+  rest-in q to f b e =
+      let l = length-part at n m fits in
+      let i : at + (q - at) ≡ q = omega arith in
+      let j : n - (q - at) ≡ to - q = omega arith in
+      part-drop at n (q - at) m (omega arith) ∙ rw (i, j)
+
+  stands-in : (p : Placed) → Stands at (part at n m) p → StandsIn m p
+  stands-in p t =
+      let f = t .from in
+      let e = stands-end at (part at n m) p t in
+      let l = stands-least at (part at n m) p t in
+      let s = rest-in (p .at) (p .end) f (omega arith) e in
+      record {
+        lies = lies-in (p .at) (p .end) (omega arith) e;
+        right = rw s at (t .right);
+        avp = stands-avp at (part at n m) p t ∙ ap avpOf s;
+      }
+
+  breaks-in : (p : Placed) → Breaks at (part at n m) p → HeadIn m p
+  breaks-in p t =
+      let e = breaks-end at (part at n m) p t in
+      record {
+        lies = lies-in (p .at) (p .end) (t .before) e;
+        avp = breaks-avp at (part at n m) p t ∙ ap bareOf (rest-in (p .at) (p .end) (t .from) (t .before) e);
+      }
+
+-- every AVP of the list stands in `m`, and so does what breaks it
 abbrev pub AllIn : List ℕ → Avps → Type 0
-AllIn m l = Each (StandsIn m) (λ p. Unit {0}) l
+AllIn m l = Each (StandsIn m) (HeadIn m) l
 
 pub part-all-in : (m : List ℕ) (at n : ℕ) → at + n ≤ length m → AllIn m (avps at (part at n m))
-part-all-in m at n fits = each-map (stands-in m at n fits) (λ p b. tt) (avps at (part at n m)) (avps-stand at (part at n m))
+part-all-in m at n fits = each-map (stands-in m at n fits) (breaks-in m at n fits) (avps at (part at n m)) (avps-stand at (part at n m))
 
--- ---- inside an AVP
+-- ---- one AVP
+
+pub head-in : (m : List ℕ) (p : Placed) → StandsIn m p → HeadIn m (bare p)
+unfolding bareOf avpOf
+head-in m p t =
+    record { lies = t .lies; avp = ap (λ (a : Avp). record { code = a .code; flags = a .flags; vendor = a .vendor; body = [] }) (t .avp) }
 
 module _ (m : List ℕ) (p : Placed) (t : StandsIn m p) where
   abbrev own : List ℕ
@@ -99,67 +119,3 @@ module _ (m : List ℕ) (p : Placed) (t : StandsIn m p) where
 
   pub inside-all-in : AllIn m (avps (bodyAt p) (p .avp .body))
   inside-all-in = rw body-part at (part-all-in m (bodyAt p) (length (p .avp .body)) body-fits)
-
--- ---- the first unknown AVP with M, at any depth
-
--- `P` holds of what was found, if anything was
-abbrev Found : (Placed → Type 0) → Option Placed → Type 0
-Found P o = (p : Placed) → o ≡ some p → P p
-
-found-none : (P : Placed → Type 0) → Found P none
-found-none P p e = let z : _≡_ {A = ℕ} 0 1 = cc in absurd (omega arith)
-
-found-some : (P : Placed → Type 0) (q : Placed) → P q → Found P (some q)
-found-some P q h p e = let r : q ≡ p = cc in subst P r h
-
-found-orElse : (P : Placed → Type 0) (a b : Option Placed) → Found P a → Found P b → Found P (orElse a b)
-found-orElse P none b f g = g
-found-orElse P (some q) b f g = f
-
-found-cond : (P : Placed → Type 0) (c : Bool) (a b : Option Placed) → Found P a → Found P b → Found P (cond c a b)
-found-cond P true a b f g = f
-found-cond P false a b f g = g
-
--- what holds of an AVP, and with it of those inside it, holds of the unknown AVP that its view shows
-module _ (P : Placed → Type 0) (enter : (p : Placed) → P p → Each P (λ q. Unit {0}) (avps (bodyAt p) (p .avp .body))) where
-  abbrev Unsupported : View → Type 0
-  Unsupported v = Found P (v .unsupported)
-
-  each-unsupported : (one : Placed → View) → ((p : Placed) → P p → Unsupported (one p)) → (l : Avps) → Each P (λ q. Unit {0}) l → Unsupported (each one l)
-  unfolding each nothing faulty _then_
-  each-unsupported one h whole e = found-none P
-  each-unsupported one h (broken p) e = found-none P
-  each-unsupported one h (more p rest) e = found-orElse P (one p .unsupported) (each one rest .unsupported) (h p (e .0)) (each-unsupported one h rest (e .1))
-
-  sized-unsupported : (k : Kind) (x : List ℕ) (p : Placed) → Unsupported (sized k x p)
-  unfolding sized single faulty
-  sized-unsupported k x p = go (sizeRight k (length (p .avp .body)))
-    where
-      go : (b : Bool) → Unsupported (cond b (single x p) (faulty 5014 (bare p)))
-      go true = found-none P
-      go false = found-none P
-
-  by-unsupported : (k : Kind) (x : List ℕ) (v : View) (p : Placed) → P p → Unsupported v → Unsupported (byKind k x v p)
-  unfolding byKind unknown
-  by-unsupported Unknown x v p h u = found-cond P (hasM (p .avp .flags)) (some p) none (found-some P p h) (found-none P)
-  by-unsupported Group x v p h u = u
-  by-unsupported Four x v p h u = sized-unsupported Four x p
-  by-unsupported Eight x v p h u = sized-unsupported Eight x p
-  by-unsupported Any x v p h u = sized-unsupported Any x p
-  by-unsupported Closed x v p h u = sized-unsupported Closed x p
-
-  module _ (kind : ℕ → ℕ → Kind) (seen : ℕ → ℕ → List ℕ → List ℕ) where
-    avp-unsupported : (left : ℕ) (p : Placed) → P p → Unsupported (viewAvp kind seen left p)
-    unfolding viewAvp group faulty
-    avp-unsupported zero p h = by-unsupported (kindOf kind seen (p .avp)) (seenOf kind seen (p .avp)) (faulty 5004 (bare p)) p h (found-none P)
-    avp-unsupported (suc left) p h =
-        by-unsupported (kindOf kind seen (p .avp)) (seenOf kind seen (p .avp)) _ p h
-        (each-unsupported (viewAvp kind seen left) (avp-unsupported left) (avps (bodyAt p) (p .avp .body)) (enter p h))
-
--- the unknown AVP that the view of a part of the message shows stands in the message
-pub unsupported-in : (kind : ℕ → ℕ → Kind) (seen : ℕ → ℕ → List ℕ → List ℕ) (left : ℕ) (m : List ℕ) (at n : ℕ) → at + n ≤ length m
-    → Standing m (view kind seen left at (part at n m) .unsupported)
-unfolding view
-unsupported-in kind seen left m at n fits =
-    each-unsupported (StandsIn m) (inside-all-in m) (viewAvp kind seen left) (avp-unsupported (StandsIn m) (inside-all-in m) kind seen left) (avps at (part at n m))
-    (part-all-in m at n fits)

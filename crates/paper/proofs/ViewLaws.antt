@@ -133,20 +133,6 @@ module _ (kind : ℕ → ℕ → Kind) (seen : ℕ → ℕ → List ℕ → List
   unfolding view each
   view-empty left at = rw (avps-empty at)
 
-  each-cond : (one : Placed → View) (b : Bool) (p q : Placed) (rest : Avps) → each one (cond b (more p rest) (broken q)) ≡ cond b (one p then each one rest) (faulty 5014 q)
-  unfolding each
-  each-cond one true p q rest = refl
-  each-cond one false p q rest = refl
-
-  pub view-more : (left at : ℕ) (s : List ℕ) → framed s ≡ true
-      → view kind seen left at s ≡ viewAvp kind seen left (placed at s) then view kind seen left (at + padded (lengthOf s)) (after s)
-  unfolding view each
-  view-more left at s e = ap (each (viewAvp kind seen left)) (avps-more at s e)
-
-  pub view-broken : (left at : ℕ) (s : List ℕ) → 1 ≤ length s → framed s ≡ false → view kind seen left at s ≡ faulty 5014 (stump at s)
-  unfolding view each
-  view-broken left at s h e = ap (each (viewAvp kind seen left)) (avps-broken at s h e)
-
   -- an AVP in front of a stretch
   pub view-one : (left at : ℕ) {x : List ℕ} (s : List ℕ) → OneAvp x
       → view kind seen left at (x ++ s) ≡ viewAvp kind seen left (record { at = at; end = at + length (x ++ s); avp = avpOf x }) then view kind seen left (at + length x) s

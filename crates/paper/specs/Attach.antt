@@ -7,9 +7,9 @@ use lib.ListN.{replicate}
 use Rattle.paper.specs.Answer.{base}
 use Rattle.paper.specs.Outcome.{Lent, Outcome}
 
--- IMSI 001010123456789, change number 3, EPS subscription, restriction 8, PLMN 00 F1 10, MME mme1 and SGSN sgsn1, both purged, AMBR 100000 and 200000
-unfoldable pub tableBefore : List ℕ
-tableBefore =
+-- IMSI 001010123456789, change number 3, EPS subscription, restriction 8, PLMN 00 F1 10, AMBR 100000 and 200000, and what the attach alters
+abbrev tableWith : ℕ → List ℕ → List ℕ → List ℕ → List ℕ
+tableWith purged mme sgsn imei =
     -- header: 264 bytes, version 1, one record
     (0x00 ∷ 0x00 ∷ 0x01 ∷ 0x08 ∷ 0x01 ∷ 0x00 ∷ 0x00 ∷ 0x01 ∷ []) ++ (
     -- IMSI
@@ -24,18 +24,19 @@ tableBefore =
     (0x01 ∷ 0x00 ∷ 0x00 ∷ 0x00 ∷ []) ++ (
     ((0x00 ∷ 0xF1 ∷ 0x10 ∷ []) ++ replicate 21 0) ++ (
     -- purge bits
-    (0x03 ∷ []) ++ (
-    replicate 7 0 ++ (
-    -- MME
-    ((0x04 ∷ 0x6D ∷ 0x6D ∷ 0x65 ∷ 0x31 ∷ []) ++ replicate 60 0) ++ (
-    -- SGSN
-    ((0x05 ∷ 0x73 ∷ 0x67 ∷ 0x73 ∷ 0x6E ∷ 0x31 ∷ []) ++ replicate 59 0) ++ (
+    (purged ∷ replicate 7 0) ++ (
+    mme ++ (
+    sgsn ++ (
     (0x00 ∷ 0x00 ∷ []) ++ (
     -- AMBR
     (0x00 ∷ 0x01 ∷ 0x86 ∷ 0xA0 ∷ 0x00 ∷ 0x03 ∷ 0x0D ∷ 0x40 ∷ []) ++ (
-    -- IMEI
-    replicate 16 0 ++ (
-    replicate 36 0))))))))))))))
+    imei ++ (
+    replicate 36 0)))))))))))))
+
+-- MME mme1 and SGSN sgsn1, both purged; no IMEI
+unfoldable pub tableBefore : List ℕ
+tableBefore =
+    tableWith 0x03 ((0x04 ∷ 0x6D ∷ 0x6D ∷ 0x65 ∷ 0x31 ∷ []) ++ replicate 60 0) ((0x05 ∷ 0x73 ∷ 0x67 ∷ 0x73 ∷ 0x6E ∷ 0x31 ∷ []) ++ replicate 59 0) (replicate 16 0)
 
 -- from mme2, with the IMEI 35209900176148
 unfoldable pub attachRequest : List ℕ
@@ -71,32 +72,8 @@ attachRequest =
 -- the MME is mme2, there is no SGSN, and the IMEI is stored
 unfoldable pub tableAfter : List ℕ
 tableAfter =
-    -- header: 264 bytes, version 1, one record
-    (0x00 ∷ 0x00 ∷ 0x01 ∷ 0x08 ∷ 0x01 ∷ 0x00 ∷ 0x00 ∷ 0x01 ∷ []) ++ (
-    -- IMSI
-    (0x0F ∷ 0x30 ∷ 0x30 ∷ 0x31 ∷ 0x30 ∷ 0x31 ∷ 0x30 ∷ 0x31 ∷ 0x32 ∷ 0x33 ∷ 0x34 ∷ 0x35 ∷ 0x36 ∷ 0x37 ∷ 0x38 ∷ 0x39 ∷ []) ++ (
-    -- change number
-    (0x00 ∷ 0x00 ∷ 0x00 ∷ 0x03 ∷ []) ++ (
-    -- subscription
-    (0x01 ∷ 0x00 ∷ 0x00 ∷ 0x00 ∷ []) ++ (
-    -- Access-Restriction-Data
-    (0x00 ∷ 0x00 ∷ 0x00 ∷ 0x08 ∷ []) ++ (
-    -- one PLMN
-    (0x01 ∷ 0x00 ∷ 0x00 ∷ 0x00 ∷ []) ++ (
-    ((0x00 ∷ 0xF1 ∷ 0x10 ∷ []) ++ replicate 21 0) ++ (
-    -- purge bits
-    (0x00 ∷ []) ++ (
-    replicate 7 0 ++ (
-    -- MME
-    ((0x04 ∷ 0x6D ∷ 0x6D ∷ 0x65 ∷ 0x32 ∷ []) ++ replicate 60 0) ++ (
-    -- SGSN
-    replicate 65 0 ++ (
-    (0x00 ∷ 0x00 ∷ []) ++ (
-    -- AMBR
-    (0x00 ∷ 0x01 ∷ 0x86 ∷ 0xA0 ∷ 0x00 ∷ 0x03 ∷ 0x0D ∷ 0x40 ∷ []) ++ (
-    -- IMEI
-    (0x0E ∷ 0x33 ∷ 0x35 ∷ 0x32 ∷ 0x30 ∷ 0x39 ∷ 0x39 ∷ 0x30 ∷ 0x30 ∷ 0x31 ∷ 0x37 ∷ 0x36 ∷ 0x31 ∷ 0x34 ∷ 0x38 ∷ 0x00 ∷ []) ++ (
-    replicate 36 0))))))))))))))
+    tableWith 0x00 ((0x04 ∷ 0x6D ∷ 0x6D ∷ 0x65 ∷ 0x32 ∷ []) ++ replicate 60 0) (replicate 65 0)
+    (0x0E ∷ 0x33 ∷ 0x35 ∷ 0x32 ∷ 0x30 ∷ 0x39 ∷ 0x39 ∷ 0x30 ∷ 0x30 ∷ 0x31 ∷ 0x37 ∷ 0x36 ∷ 0x31 ∷ 0x34 ∷ 0x38 ∷ 0x00 ∷ [])
 
 unfoldable pub attachAnswer : List ℕ
 attachAnswer =

@@ -8,7 +8,7 @@ use Prim.Native.Nat.{ℕ, _<_, _≤_}
 use lib.ListN.{length}
 use Rattle.paper.specs.declared.Failed.{Failed}
 use Rattle.paper.specs.declared.Failed.the-variants.{Nothing, Whole, Bare, Missing}
-use Rattle.paper.specs.Avp.{framed, avpOf}
+use Rattle.paper.specs.Avp.{framed, avpOf, bareOf}
 use Rattle.paper.specs.Reader.{Placed}
 use Rattle.paper.specs.Shown.{stretch}
 
@@ -22,6 +22,11 @@ pub record StandsIn (m : List ℕ) (p : Placed) : Type 0 where
   pub lies : LiesIn m (p .at) (p .end)
   pub right : framed (stretch m (p .at) (p .end)) ≡ true
   pub avp : p .avp ≡ avpOf (stretch m (p .at) (p .end))
+
+-- `p` is the head of what stands at its place of `m`: of an AVP, or of what is none
+pub record HeadIn (m : List ℕ) (p : Placed) : Type 0 where
+  pub lies : LiesIn m (p .at) (p .end)
+  pub avp : p .avp ≡ bareOf (stretch m (p .at) (p .end))
 
 -- what was found, if anything, stands in `m`
 abbrev pub Standing : List ℕ → Option Placed → Type 0

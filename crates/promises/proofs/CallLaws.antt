@@ -1,15 +1,13 @@
 -- What was shown of 01's outcome holds of every call; a call from C is such a call.
 -- Assumes nothing.
 use mathlib.Core.Path.{_≡_, refl, sym, ap, _∙_, subst}
-use mathlib.Core.Option.{none, some}
 use mathlib.Core.List.{List}
 use Prim.Native.Nat.{ℕ, _+_, _*_, _/_, _%_, _^_, _≤_, _<_}
 use native.Mathlib.Omega.{arith}
 use Rattle.paper.specs.Correction.{Corrected, corrected}
-use Rattle.paper.specs.Layout.{longestAnswer}
 use Rattle.paper.specs.Outcome.{Lent, Outcome, outcome}
 use Rattle.paper.proofs.OutcomeLaws.{outcome-size}
-use Rattle.promises.specs.Calls.{RequestCall, Call, Correction, SeenByC}
+use Rattle.promises.specs.Calls.{Call, Correction}
 use Rattle.promises.specs.Promises.{ForC}
 
 pub of-call : (P : Lent → Outcome → Type 0) → ((l : Lent) → P l (outcome l)) → (c : Call) → P (c .lent) (c .left)

@@ -7,7 +7,6 @@ use mathlib.Core.List.{List}
 use Prim.Native.Nat.{ℕ, _≤_}
 use lib.ListN.{take}
 use Rattle.paper.specs.Clerks.{recordWith, FirstThatHolds, Alters}
-use Rattle.paper.specs.Correction.{Corrected}
 use Rattle.paper.specs.Layout.{mostEntries}
 use Rattle.paper.specs.Outcome.{Lent, Outcome}
 use Rattle.paper.specs.Procedures.{Entry, imsiField, isUlr, isPur, isNor, onS6a}

@@ -1,7 +1,6 @@
 -- Promise 7, of calls: by paper's theorem over `outcome`, and said of the public message reader.
 -- Assumes nothing.
 use mathlib.Core.Path.{_≡_, _∙_}
-use Prim.Native.Nat.{ℕ}
 use lib.ListN.{drop}
 use Rattle.wire.specs.Number.{Bytes}
 use Rattle.dictionary.specs.Rows.{kindOf}

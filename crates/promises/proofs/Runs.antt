@@ -2,11 +2,10 @@
 -- Assumes nothing.
 use mathlib.Core.Path.{_≡_, refl, sym, ap, _∙_, subst}
 use mathlib.Core.Bool.{true}
-use mathlib.Core.List.{List, [], _∷_}
+use mathlib.Core.List.{List, _∷_}
 use Prim.Native.Nat.{ℕ, _-_, _^_, _≤_, _<_}
 use Rattle.paper.specs.Clerks.{recordWith, standingOf}
-use Rattle.paper.specs.Correction.{frameImsi, frameSeen, Corrected, corrected}
-use Rattle.paper.specs.Outcome.{Outcome, outcome}
+use Rattle.paper.specs.Correction.{frameImsi, Corrected, corrected}
 use Rattle.paper.specs.Run.{Step, corrects, Came, asked, put-right, comes, left, run, tableAfter, acceptedIn}
 use Rattle.paper.specs.Table.{valid, changeOf}
 use Rattle.paper.proofs.PromiseRun as paper

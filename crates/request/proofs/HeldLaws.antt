@@ -4,16 +4,17 @@ use mathlib.Core.Path.{_≡_, refl, sym, ap, _∙_}
 use mathlib.Core.Bool.{Bool, true, false, cond}
 use mathlib.Core.Option.{Option, none}
 use mathlib.Core.List.{List, []}
-use Prim.Native.Nat.{ℕ, _-_, _≤_}
+use Prim.Native.Nat.{ℕ, _≤_}
 use native.Mathlib.Omega.{arith}
 use lib.ListN.{length}
 use Rattle.wire.specs.Number.{numAt}
 use Rattle.paper.specs.Reader.{Placed, Avps, whole, avps}
 use Rattle.paper.specs.Find.{firstSecond, bodyFound}
-use Rattle.paper.specs.Profile.{Key, terminalInformation, imei}
-use Rattle.paper.specs.Request.{find, has, used, usedIn, avpsOf, inside, terminal, imeiOf, ifUsed, isThere}
+use Rattle.paper.specs.Profile.{Key, terminalInformation}
+use Rattle.paper.specs.Request.{find, has, used, usedIn, avpsOf, inside, terminal, ifUsed, isThere}
 use Rattle.paper.specs.ShownIn.{Standing}
-use Rattle.paper.proofs.StandsIn.{AllIn, stretch-rest}
+use Rattle.paper.proofs.StandsIn.{stretch-rest}
+use Rattle.paper.proofs.ShownLaws.{used-standing}
 use Rattle.request.specs.declared.place.Span.{Span}
 use Rattle.request.specs.declared.place.Sought.{Sought}
 use Rattle.request.specs.declared.place.Sought.the-variants.{Nothing}
@@ -22,10 +23,7 @@ use Rattle.request.specs.Place.{soughtOf, isAt, spanOf, InMessage, bytes
 use Rattle.request.specs.Profile.{rowOf}
 use Rattle.request.specs.Held.{Ready, Frames}
 use Rattle.request.specs.Accepted.{SpanOf}
-use Rattle.request.proofs.PlaceLaws.{list-all-in, found-standing, none-standing, cond-standing, data-inside, data-bytes, data-avps, there-at}
-
-pub frames-all-in : (m : List ℕ) {l : Avps} (s : Span) → Frames m l s → AllIn m l
-frames-all-in m s f = rw (f .same) at (list-all-in m s (f .inside))
+use Rattle.request.proofs.PlaceLaws.{data-inside, data-bytes, data-avps, there-at}
 
 -- the AVPs behind the header
 pub all-frames : (m : List ℕ) → 20 ≤ length m → Frames m (avpsOf m) (record { at = 20; end = length m })
@@ -33,15 +31,6 @@ unfolding avpsOf
 all-frames m h = record { inside = record { order = h; fits = omega arith }; same = ap (avps 20) (stretch-rest 20 m) }
 
 module _ (m : List ℕ) (long : 20 ≤ length m) where
-  pub all-in : AllIn m (avpsOf m)
-  all-in = frames-all-in m _ (all-frames m long)
-
-  pub top-standing : (key : Key) → Standing m (find key (avpsOf m))
-  top-standing key = found-standing m (avpsOf m) all-in (key .vendor) (key .code)
-
-  pub used-standing : (key : Key) → Standing m (ifUsed key m)
-  used-standing key = cond-standing m (has key (used m)) (find key (avpsOf m)) none (top-standing key) (none-standing m)
-
   inside-chosen : (b : Bool) (o : Option Placed) → inside (cond b o none) ≡ cond b (inside o) whole
   inside-chosen true o = refl
   inside-chosen false o = refl
@@ -53,14 +42,8 @@ module _ (m : List ℕ) (long : 20 ≤ length m) where
   pub terminal-frames : {f : Sought} → f ≡ soughtOf (ifUsed terminalInformation m) → {s : Span} → s ≡ spanOf f → Frames m (terminal m) s
   terminal-frames e q =
       let o = ifUsed terminalInformation m in
-      let t = used-standing terminalInformation in
+      let t = used-standing m long terminalInformation in
       rw (q, e) (record { inside = data-inside m o t; same = data-avps m o t ∙ terminal-inside })
-
-  pub terminal-all-in : AllIn m (terminal m)
-  terminal-all-in = frames-all-in m _ (terminal-frames refl refl)
-
-  pub imei-standing : Standing m (imeiOf m)
-  imei-standing = found-standing m (terminal m) terminal-all-in (imei .vendor) (imei .code)
 
 -- ---- the data of what was found
 

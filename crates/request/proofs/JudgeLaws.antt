@@ -15,6 +15,7 @@ use Rattle.paper.specs.Profile as Paper
 use Rattle.paper.specs.Profile.{commandOf, imei}
 use Rattle.paper.specs.Request.{Refusal, keyNumber, usedIn, requiredIn, used, commandCode, avpsOf, viewOf, terminal, firstAbsent, repeated, first, versionTest, lengthTest, errorTest, faultTest, applicationTest, commandTest, unsupportedTest, repeatedTest, absentTest, valuesTest, refusal, valueTest}
 use Rattle.paper.specs.ShownIn.{Standing}
+use Rattle.paper.proofs.ShownLaws.{repeated-standing}
 use Rattle.reader.specs.declared.header.Header.{Header}
 use Rattle.reader.specs.Header.{headerOf}
 use Rattle.reader.specs.Message.{visitOf}
@@ -30,8 +31,8 @@ use Rattle.request.specs.Profile.{rowOf, keyAt, Lists}
 use Rattle.request.specs.Held.{Ready, Frames}
 use Rattle.request.specs.Test.{Answers, shownTest, Dictionary}
 use Rattle.request.proofs.ProfileLaws.{required-back}
-use Rattle.request.proofs.PlaceLaws.{second-standing, earlier-standing, earlier-sought}
-use Rattle.request.proofs.HeldLaws.{all-in, terminal-all-in, second-framed, sought-bytes}
+use Rattle.request.proofs.PlaceLaws.{earlier-sought}
+use Rattle.request.proofs.HeldLaws.{second-framed, sought-bytes}
 use Rattle.request.proofs.TestLaws.{shown-answers, value-answers}
 use Rattle.request.proofs.ChainLaws.{Left, first-append}
 
@@ -64,19 +65,13 @@ module _ (m : List ℕ) {c : Command} (r : Ready m c) {k : Keys} (l : Lists k (r
 -- the second at the top and the one inside Terminal-Information
 module _ (m : List ℕ) {c : Command} (r : Ready m c) {f : Sought} (e : f ≡ soughtOf (firstSecond (map keyNumber (used m)) [] (avpsOf m)))
     {i : Span} (b : Frames m (terminal m) i) {g : Sought} (d : g ≡ soughtOf (firstSecond (keyNumber imei ∷ []) [] (avpsIn m i))) where
-  repeated-standing : Standing m (repeated m)
-  unfolding repeated
-  repeated-standing =
-      earlier-standing m _ _ (second-standing m (avpsOf m) (all-in m (r .long)) (map keyNumber (used m)))
-      (second-standing m (terminal m) (terminal-all-in m (r .long)) (keyNumber imei ∷ []))
-
   repeated-sought : earlierSought f g ≡ soughtOf (repeated m)
   unfolding repeated
   repeated-sought = rw (e, second-framed m _ b d) (earlier-sought _ _)
 
   pub repeated-answers : {x : Sought} → x ≡ earlierSought f g → {t : Test} → t ≡ shownTest 5009 x → Answers m (repeatedTest m) t
   unfolding repeatedTest
-  repeated-answers p q = shown-answers m (repeated m) repeated-standing (p ∙ repeated-sought) 5009 q
+  repeated-answers p q = shown-answers m (repeated m) (repeated-standing m (r .long)) (p ∙ repeated-sought) 5009 q
 
 -- the data of what was found is judged by a rule
 pub value-judged : (m : List ℕ) (o : Option Placed) → Standing m o → {f : Sought} → f ≡ soughtOf o → (right : List ℕ → Bool) → {x : List ℕ} → x ≡ bytesIn m (spanOf f)

@@ -11,13 +11,13 @@ use lib.ListN.{length, drop, length-drop}
 use borrow.Author.Tests.{lt-ltb, le-ltb}
 use Rattle.wire.proofs.ListLaws.{length-part}
 use Rattle.paper.specs.Avp.{headSize, flagsOf, lengthOf, bodyOf, avpOf}
-use Rattle.paper.specs.Reader.{Placed, Avps, placed, avps, bodyAt}
+use Rattle.paper.specs.Reader.{Placed, placed, avps, bodyAt}
 use Rattle.paper.specs.Find.{firstOf, firstSecond, bodyFound}
 use Rattle.paper.specs.Request.{earlier, inside, isThere}
-use Rattle.paper.specs.ShownIn.{StandsIn, Standing}
+use Rattle.paper.specs.ShownIn.{Standing}
 use Rattle.paper.proofs.AvpLaws.{framed-at, head-and-body}
-use Rattle.paper.proofs.AvpsLaws.{firstOf-each, firstSecond-each, avps-empty}
-use Rattle.paper.proofs.StandsIn.{AllIn, part-all-in, inside-all-in, body-fits, body-part}
+use Rattle.paper.proofs.AvpsLaws.{avps-empty}
+use Rattle.paper.proofs.StandsIn.{body-fits, body-part}
 use Rattle.avp.specs.declared.cursor.Avp.{Avp}
 use Rattle.avp.specs.declared.find.Found.the-variants as Found
 use Rattle.avp.specs.Step.{avpAt}
@@ -113,29 +113,6 @@ earlier-sought (some o) (some q) = go (ltb (q .at) (o .at))
 -- ---- what stands in the message
 
 module _ (m : List ℕ) where
-  pub list-all-in : (list : Span) → InMessage m list → AllIn m (avpsIn m list)
-  list-all-in list i = let o = i .order in let f = i .fits in part-all-in m (list .at) (list .end - list .at) (omega arith)
-
-  module _ (l : Avps) (all : AllIn m l) where
-    pub found-standing : (vendor code : ℕ) → Standing m (firstOf vendor code l)
-    found-standing vendor code = firstOf-each (StandsIn m) (λ p. Unit {0}) vendor code l all
-
-    pub second-standing : (keys : List ℕ) → Standing m (firstSecond keys [] l)
-    second-standing keys = firstSecond-each (StandsIn m) (λ p. Unit {0}) keys [] l all
-
-  pub none-standing : Standing m none
-  none-standing p e = let z : _≡_ {A = ℕ} 0 1 = cc in absurd (omega arith)
-
-  pub cond-standing : (b : Bool) (o q : Option Placed) → Standing m o → Standing m q → Standing m (cond b o q)
-  cond-standing true o q f g = f
-  cond-standing false o q f g = g
-
-  pub earlier-standing : (o q : Option Placed) → Standing m o → Standing m q → Standing m (earlier o q)
-  unfolding earlier
-  earlier-standing none q f g = g
-  earlier-standing (some o) none f g = f
-  earlier-standing (some o) (some q) f g = cond-standing (ltb (q .at) (o .at)) (some q) (some o) g f
-
   -- the stretch of its data: inside the message, with the paper's bytes and AVPs
   pub data-inside : (o : Option Placed) → Standing m o → InMessage m (spanOf (soughtOf o))
   data-inside none t = record { order = omega arith; fits = omega arith }
@@ -150,10 +127,6 @@ module _ (m : List ℕ) where
   pub data-avps : (o : Option Placed) → Standing m o → avpsIn m (spanOf (soughtOf o)) ≡ inside o
   data-avps none t = avps-empty 0
   data-avps (some p) t = ap (avps (bodyAt p)) (data-bytes (some p) t)
-
-  pub inside-standing : (o : Option Placed) → Standing m o → AllIn m (inside o)
-  inside-standing none t = tt
-  inside-standing (some p) t = inside-all-in m p (t p refl)
 
 pub there-at : (o : Option Placed) → isAt (soughtOf o) ≡ isThere o
 there-at none = refl

@@ -1,21 +1,20 @@
 -- The profile's code against the paper's list of commands: codes that are no command, and keys as numbers.
 -- Assumes nothing.
-use mathlib.Core.Path.{_≡_, refl, sym, _∙_}
-use mathlib.Core.Bool.{Bool, true, false, _&&_, _||_}
+use mathlib.Core.Path.{_≡_, refl, sym}
+use mathlib.Core.Bool.{Bool, true, false, _&&_}
 use mathlib.Core.Option.{none}
 use mathlib.Core.List.{List, [], _∷_, map}
-use Prim.Native.Nat.{ℕ, _+_, _*_, _/_, _%_, _≤_, _<_}
-use native.Mathlib.Numerals.{add-one}
+use Prim.Native.Nat.{ℕ, _+_, _*_, _/_, _%_, _<_}
 use native.Mathlib.Omega.{arith}
 use lib.Dec.{eqb}
 use lib.ListN.{set}
 use borrow.Author.Tests.{eq-eqb, ne-eqb, eqb-true, eqb-false}
 use Rattle.dictionary.specs.Rows.{keyOf}
-use Rattle.paper.specs.Profile.{Key, commandIn, commandOf, commands, ulr, pur, nor, ratType, ulrFlags, visitedPlmnId, terminalInformation, purFlags, norFlags}
+use Rattle.paper.specs.Profile.{Key, commandIn, commandOf, commands, ulr, pur, nor, ulrFlags, terminalInformation, purFlags, norFlags}
 use Rattle.paper.specs.Find.{member}
 use Rattle.paper.specs.Request.{keyNumber, has, usedIn, requiredIn}
 use Rattle.paper.specs.Asked.{flagsKey}
-use Rattle.request.specs.Profile.{rowOf, keyAt, commonKeys, Lists}
+use Rattle.request.specs.Profile.{rowOf, keyAt, notedKeys, Lists}
 use Rattle.request.specs.declared.profile.Command.{Command}
 use Rattle.request.specs.declared.profile.Command.the-variants.{Ulr, Pur, Nor, Other}
 
@@ -82,21 +81,21 @@ required-back Pur = refl
 required-back Nor = refl
 required-back Other = refl
 
--- ---- the array of a command: the common keys with its own behind them
+-- ---- the array of a command: the noted keys, with its own set where they are not the next
 
-module _ {all : List ℕ} (e : all ≡ commonKeys) where
-  pub ulr-lists : Lists (record { required = 9; used = 10; all = set (set (set (set all 6 (keyNumber ratType)) 7 (keyNumber ulrFlags)) 8 (keyNumber visitedPlmnId)) 9 (keyNumber terminalInformation) }) (rowOf Ulr)
-  unfolding commonKeys commandOf commands commandIn requiredIn usedIn keyOf
+module _ {all : List ℕ} (e : all ≡ notedKeys) where
+  pub ulr-lists : Lists (record { required = 9; used = 10; all = all }) (rowOf Ulr)
+  unfolding notedKeys commandOf commands commandIn requiredIn usedIn keyOf
   ulr-lists = rw e (record { required = refl; used = refl; requiredFits = omega arith; usedFits = omega arith; few = omega arith })
 
   pub pur-lists : Lists (record { required = 6; used = 7; all = set all 6 (keyNumber purFlags) }) (rowOf Pur)
-  unfolding commonKeys commandOf commands commandIn requiredIn usedIn keyOf
+  unfolding notedKeys commandOf commands commandIn requiredIn usedIn keyOf
   pur-lists = rw e (record { required = refl; used = refl; requiredFits = omega arith; usedFits = omega arith; few = omega arith })
 
   pub nor-lists : Lists (record { required = 6; used = 8; all = set (set all 6 (keyNumber norFlags)) 7 (keyNumber terminalInformation) }) (rowOf Nor)
-  unfolding commonKeys commandOf commands commandIn requiredIn usedIn keyOf
+  unfolding notedKeys commandOf commands commandIn requiredIn usedIn keyOf
   nor-lists = rw e (record { required = refl; used = refl; requiredFits = omega arith; usedFits = omega arith; few = omega arith })
 
   pub other-lists : Lists (record { required = 0; used = 0; all = all }) (rowOf Other)
-  unfolding commonKeys commandOf commands commandIn requiredIn usedIn keyOf
+  unfolding notedKeys commandOf commands commandIn requiredIn usedIn keyOf
   other-lists = rw e (record { required = refl; used = refl; requiredFits = omega arith; usedFits = omega arith; few = omega arith })

@@ -4,12 +4,12 @@ use mathlib.Core.Path.{_≡_, refl, sym, ap, _∙_}
 use mathlib.Core.Bool.{Bool, true, false, cond, _&&_}
 use mathlib.Core.Option.{Option, none, some}
 use mathlib.Core.List.{List, [], map}
-use Prim.Native.Nat.{ℕ, _+_, _-_, _/_, _%_, _≤_, _<_}
+use Prim.Native.Nat.{ℕ, _+_, _/_, _%_, _≤_, _<_}
 use native.Mathlib.Numerals.{add-one}
 use native.Mathlib.Omega.{arith}
 use lib.Dec.{eqb}
-use lib.ListN.{length, take, drop, getD, replicate, length-drop, drop-of-length-le}
-use lib.Seq.{drop-drop, drop-cons}
+use lib.ListN.{length, drop, getD, replicate, drop-of-length-le}
+use lib.Seq.{drop-cons}
 use borrow.Author.Tests.{eq-eqb, ne-eqb}
 use Rattle.dictionary.specs.declared.Kind.{Kind}
 use Rattle.dictionary.specs.declared.Kind.the-variants.{Four, Eight, Any, Group, Closed, Unknown}
@@ -17,15 +17,13 @@ use Rattle.dictionary.specs.Rows.{kindIn, kindOf, Lent}
 use Rattle.dictionary.proofs.Order.{lent-rows, kind-of-rows}
 use Rattle.paper.specs.declared.Visit.the-variants.{Clean, Fault, Unsupported}
 use Rattle.paper.specs.declared.Failed.the-variants.{Nothing, Whole, Bare, Missing}
-use Rattle.paper.specs.Avp.{bareOf}
 use Rattle.paper.specs.Reader.{Placed, Avps, Faulty, tell, told}
 use Rattle.paper.specs.Find.{bodyFound}
 use Rattle.paper.specs.Profile.{application, commandOf}
 use Rattle.paper.specs.Request.{Refusal, mute, refuse, versionOf, messageLength, commandCode, applicationOf, viewOf, isThere, find, isCommand, versionTest, lengthTest, errorTest, ofFault, faultTest, applicationTest, commandTest, ofFound, unsupportedTest, blank, missing, firstAbsent, valueTest}
-use Rattle.paper.specs.Shown.{stretch, failedIn}
-use Rattle.paper.specs.ShownIn.{StandsIn, Standing}
-use Rattle.paper.proofs.ShownLaws.{Shows, view-shows}
-use Rattle.paper.proofs.StandsIn.{stretch-rest, unsupported-in}
+use Rattle.paper.specs.Shown.{failedIn}
+use Rattle.paper.specs.ShownIn.{StandsIn, HeadIn, Standing}
+use Rattle.paper.proofs.ShownLaws.{view-shows}
 use Rattle.reader.specs.declared.header.Header.{Header}
 use Rattle.reader.specs.Header.{headerOf}
 use Rattle.request.specs.declared.place.Sought.{Sought}
@@ -107,20 +105,12 @@ unfolding failedIn
 whole-answers m code p t = record { same = rw (t .avp); places = (t .lies, t .right) }
 
 module _ (m : List ℕ) (long : 20 ≤ length m) where
-  -- a fault that is shown behind the header, by places of the message
-  bare-answers : (g : Faulty) → Shows bareOf 20 (drop 20 m) (g .shown)
-      → Answers m (mute (g .code) (some (g .shown .avp))) (Fails (record { 0 = g .code }) (Bare (g .shown .at) (g .shown .end)) false)
+  -- a fault of the message that is shown by its head
+  bare-answers : (g : Faulty) → HeadIn m (g .shown) → Answers m (mute (g .code) (some (g .shown .avp))) (Fails (record { 0 = g .code }) (Bare (g .shown .at) (g .shown .end)) false)
   unfolding failedIn
-  bare-answers g s =
-      let f = s .from in
-      let o = s .order in
-      let b : g .shown .end ≤ 20 + (length m - 20) = rw length-drop at (s .to) in
-      let k : 20 + (g .shown .at - 20) ≡ g .shown .at = omega arith in
-      let e : take (g .shown .end - g .shown .at) (drop (g .shown .at - 20) (drop 20 m)) ≡ stretch m (g .shown .at) (g .shown .end) =
-      ap (take (g .shown .end - g .shown .at)) (drop-drop (g .shown .at - 20) 20 m ∙ ap (λ (j : ℕ). drop j m) k) in
-      record { same = rw (s .avp, e); places = record { order = o; fits = omega arith } }
+  bare-answers g h = record { same = rw (h .avp); places = h .lies }
 
-  fault-found : (f : Option Faulty) (u : Option Placed) → ((g : Faulty) → f ≡ some g → Shows bareOf 20 (drop 20 m) (g .shown)) → {code at to : ℕ} → Fault code at to ≡ tell f u
+  fault-found : (f : Option Faulty) (u : Option Placed) → ((g : Faulty) → f ≡ some g → HeadIn m (g .shown)) → {code at to : ℕ} → Fault code at to ≡ tell f u
       → Answers m (ofFault f) (Fails (record { 0 = code }) (Bare at to) false)
   unfolding tell ofFault
   fault-found none none s e = let z : _≡_ {A = ℕ} 0 1 = cc in absurd (omega arith)
@@ -133,7 +123,7 @@ module _ (m : List ℕ) (long : 20 ≤ length m) where
 
   pub fault-answers : {code at to : ℕ} → Fault code at to ≡ told (viewOf m) → Answers m (faultTest m) (Fails (record { 0 = code }) (Bare at to) false)
   unfolding told viewOf faultTest
-  fault-answers e = fault-found (viewOf m .fault) (viewOf m .unsupported) (view-shows kindOf (λ v c x. x) 8 20 (drop 20 m) .fault) e
+  fault-answers e = fault-found (viewOf m .fault) (viewOf m .unsupported) (view-shows m long .fault) e
 
   unsupported-found : (f : Option Faulty) (u : Option Placed) → Standing m u → {at to : ℕ} → Unsupported at to ≡ tell f u
       → Answers m (ofFound 5001 u) (Fails (record { 0 = 5001 }) (Whole at to) true)
@@ -145,15 +135,9 @@ module _ (m : List ℕ) (long : 20 ≤ length m) where
       rw (ea, et) (whole-answers m 5001 p (s p refl))
   unsupported-found (some g) u s e = let z : _≡_ {A = ℕ} 0 1 = cc in absurd (omega arith)
 
-  view-standing : Standing m (viewOf m .unsupported)
-  unfolding viewOf
-  view-standing =
-      let s = unsupported-in kindOf (λ v c x. x) 8 m 20 (length m - 20) (omega arith) in
-      rw (stretch-rest 20 m) at s
-
   pub unsupported-answers : {at to : ℕ} → Unsupported at to ≡ told (viewOf m) → Answers m (unsupportedTest m) (Fails (record { 0 = 5001 }) (Whole at to) true)
   unfolding told unsupportedTest
-  unsupported-answers e = unsupported-found (viewOf m .fault) (viewOf m .unsupported) view-standing e
+  unsupported-answers e = unsupported-found (viewOf m .fault) (viewOf m .unsupported) (view-shows m long .unsupported) e
 
 module _ (f : Option Faulty) (u : Option Placed) where
   no-fault-told : {at to : ℕ} → Unsupported at to ≡ tell f u → f ≡ none

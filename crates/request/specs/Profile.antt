@@ -6,7 +6,7 @@ use mathlib.Core.List.{List, [], _∷_, _++_, map}
 use Prim.Native.Nat.{ℕ, _/_, _%_, _≤_}
 use lib.ListN.{length, take}
 use Rattle.paper.specs.Profile as Paper
-use Rattle.paper.specs.Profile.{Key, common, commandOf, ulr, pur, nor, sessionId, authSessionState, originHost, originRealm, destinationRealm, userName, ratType, ulrFlags, visitedPlmnId, terminalInformation, purFlags, norFlags}
+use Rattle.paper.specs.Profile.{Key, common, commandOf, ulr, pur, nor, ratType, ulrFlags, visitedPlmnId, terminalInformation, purFlags, norFlags}
 use Rattle.paper.specs.Request.{keyNumber, requiredIn, usedIn}
 use Rattle.request.specs.declared.profile.Command.{Command}
 use Rattle.request.specs.declared.profile.Command.the-variants.{Ulr, Pur, Nor, Other}
@@ -22,15 +22,9 @@ rowOf Other = none
 abbrev pub keyAt : ℕ → Key
 keyAt n = record { vendor = n / 4294967296; code = n % 4294967296 }
 
--- the keys that every command requires, as numbers, and room for four more
-unfoldable pub commonKeys : List ℕ
-commonKeys = map keyNumber common ++ (0 ∷ 0 ∷ 0 ∷ 0 ∷ [])
-
--- the keys that some command uses, as numbers
+-- the keys that some command uses, as numbers; those of a ULR come first, in its order
 unfoldable pub notedKeys : List ℕ
-notedKeys =
-    map keyNumber
-    (sessionId ∷ authSessionState ∷ originHost ∷ originRealm ∷ destinationRealm ∷ userName ∷ ratType ∷ ulrFlags ∷ visitedPlmnId ∷ terminalInformation ∷ purFlags ∷ norFlags ∷ [])
+notedKeys = map keyNumber (common ++ (ratType ∷ ulrFlags ∷ visitedPlmnId ∷ terminalInformation ∷ purFlags ∷ norFlags ∷ []))
 
 -- `r` lists the keys of the command
 pub record Lists (r : Keys) (c : Option Paper.Command) : Type 0 where

@@ -4,7 +4,7 @@ ghost use mathlib.Core.Path.{_≡_};
 ghost use Rattle.paper.specs.Profile.{commandOf};
 ghost use Rattle.paper.specs.Request.{has, usedIn};
 ghost use Rattle.paper.specs.Asked.{flagsKey};
-ghost use Rattle.request.specs.Profile.{rowOf, keyAt, Lists, commonKeys, notedKeys};
+ghost use Rattle.request.specs.Profile.{rowOf, keyAt, Lists, notedKeys};
 use avp::find::index_of;
 use paper::profile;
 use paper::profile::NOR;
@@ -50,7 +50,7 @@ pub enum Command {
 pub struct Keys {
     pub required: usize,
     pub used: usize,
-    pub all: [u64; 10],
+    pub all: [u64; 12],
 }
 
 pub fn command_of(code: u32) -> Command
@@ -68,9 +68,9 @@ pub fn command_of(code: u32) -> Command
     Command::Other
 }
 
-// What every command requires, in the order of 5005, and room for what a command has of its own.
-fn common_keys() -> [u64; 10]
-    ensures { λ r. ⌜ r ≡ commonKeys ⌝ }
+// The keys that some command uses; those of a ULR come first, in the order of 5005.
+pub fn noted_keys() -> [u64; 12]
+    ensures { λ r. ⌜ r ≡ notedKeys ⌝ }
 {
     [
         SESSION_ID,
@@ -79,29 +79,26 @@ fn common_keys() -> [u64; 10]
         ORIGIN_REALM,
         DESTINATION_REALM,
         USER_NAME,
-        0,
-        0,
-        0,
-        0,
+        RAT_TYPE,
+        ULR_FLAGS,
+        VISITED_PLMN_ID,
+        TERMINAL_INFORMATION,
+        PUR_FLAGS,
+        NOR_FLAGS,
     ]
 }
 
+// Every command requires the first six.
 pub fn keys_of(c: Command) -> Keys
     ensures { λ r. ⌜ Lists r (rowOf c) ⌝ }
 {
-    let mut all = common_keys();
+    let mut all = noted_keys();
     match c {
-        Command::Ulr => {
-            all[6] = RAT_TYPE;
-            all[7] = ULR_FLAGS;
-            all[8] = VISITED_PLMN_ID;
-            all[9] = TERMINAL_INFORMATION;
-            Keys {
-                required: 9,
-                used: 10,
-                all,
-            }
-        }
+        Command::Ulr => Keys {
+            required: 9,
+            used: 10,
+            all,
+        },
         Command::Pur => {
             all[6] = PUR_FLAGS;
             Keys {
@@ -125,26 +122,6 @@ pub fn keys_of(c: Command) -> Keys
             all,
         },
     }
-}
-
-// The keys that some command uses.
-pub fn noted_keys() -> [u64; 12]
-    ensures { λ r. ⌜ r ≡ notedKeys ⌝ }
-{
-    [
-        SESSION_ID,
-        AUTH_SESSION_STATE,
-        ORIGIN_HOST,
-        ORIGIN_REALM,
-        DESTINATION_REALM,
-        USER_NAME,
-        RAT_TYPE,
-        ULR_FLAGS,
-        VISITED_PLMN_ID,
-        TERMINAL_INFORMATION,
-        PUR_FLAGS,
-        NOR_FLAGS,
-    ]
 }
 
 // The flag word that a command has of its own.

@@ -2,12 +2,12 @@
 // What is asked everywhere is that record `i` lies inside the buffer, as every record that `find_record` finds does.
 use paper::layout;
 ghost use mathlib.Core.Path.{_≡_};
-ghost use mathlib.Core.List.{List, [], _∷_};
+ghost use mathlib.Core.List.{[], _∷_};
 ghost use Prim.Native.Nat.{_+_, _*_, _^_, _≤_, _<_};
 ghost use lib.ListN.{length, getD};
 ghost use Rattle.wire.specs.Number.{be, numAt};
 ghost use Rattle.wire.specs.Put.{part};
-ghost use Rattle.paper.specs.Layout.{recordSize, changeAt, subscriptionAt, restrictionAt, plmnCountAt, plmnsAt, plmnSize, mostPlmns, purgedAt, mostName, ambrAt, imeiAt, mostDigits};
+ghost use Rattle.paper.specs.Layout.{recordSize, changeAt, subscriptionAt, restrictionAt, plmnCountAt, plmnsAt, plmnSize, mostPlmns, mostName, ambrAt, mostDigits};
 ghost use Rattle.paper.specs.Table.{recordAt, recordOf, changeOf, store};
 ghost use Rattle.paper.specs.Fields.{filled, withBit, withoutBit, purgedOf, storeNode, storePurged, storeImei};
 

@@ -2,8 +2,6 @@ use mathlib.Core.Path.{refl}
 use Rattle.dictionary.specs.Rows.{keys, rows, keysOf, keyOf}
 use Rattle.dictionary.proofs.all_keys.Statement.{statement}
 use Rattle.dictionary.proofs.all_keys.Tie as tie
-use Rattle.dictionary.proofs.all_keys.Reads as reads
-use Rattle.dictionary.proofs.all_keys.Lts as lts
 
 -- src/lib.rt:80:1
 returns : tie.Need-returns

@@ -2,8 +2,6 @@ use mathlib.Core.Path.{refl}
 use Rattle.dictionary.specs.Rows.{kinds, rows, kindsOf}
 use Rattle.dictionary.proofs.all_kinds.Statement.{statement}
 use Rattle.dictionary.proofs.all_kinds.Tie as tie
-use Rattle.dictionary.proofs.all_kinds.Reads as reads
-use Rattle.dictionary.proofs.all_kinds.Lts as lts
 
 -- src/lib.rt:87:1
 returns : tie.Need-returns

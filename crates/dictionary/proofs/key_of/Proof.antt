@@ -3,8 +3,6 @@ use Rattle.dictionary.specs.Rows.{keyOf}
 use borrow.Author.Needs.{needs}
 use Rattle.dictionary.proofs.key_of.Statement.{statement}
 use Rattle.dictionary.proofs.key_of.Tie as tie
-use Rattle.dictionary.proofs.key_of.Reads as reads
-use Rattle.dictionary.proofs.key_of.Lts as lts
 
 -- src/lib.rt:31:5
 mul-result : tie.Need-mul-result

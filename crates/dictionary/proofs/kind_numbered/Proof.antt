@@ -4,8 +4,6 @@ use Rattle.dictionary.specs.declared.Kind.the-variants.{Four, Eight, Any
 use Rattle.dictionary.proofs.Numbers.{numbered, no-kind-numbered}
 use Rattle.dictionary.proofs.kind_numbered.Statement.{statement}
 use Rattle.dictionary.proofs.kind_numbered.Tie as tie
-use Rattle.dictionary.proofs.kind_numbered.Reads as reads
-use Rattle.dictionary.proofs.kind_numbered.Lts as lts
 
 -- src/lib.rt:39:9
 returns : tie.Need-returns

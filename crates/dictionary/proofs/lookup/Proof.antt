@@ -1,4 +1,4 @@
-use mathlib.Core.Path.{_≡_, sym, _∙_}
+use mathlib.Core.Path.{sym, _∙_}
 use Prim.Native.Nat.{ℕ, _+_, _-_, _/_, _≤_, _<_}
 use native.Mathlib.Omega.{arith}
 use lib.ListN.{length, getD}
@@ -7,10 +7,6 @@ use Rattle.dictionary.proofs.Order.{kind-at, kind-nowhere, all-below, a
 use borrow.Author.Needs.{needs}
 use Rattle.dictionary.proofs.lookup.Statement.{statement}
 use Rattle.dictionary.proofs.lookup.Tie as tie
-use Rattle.dictionary.proofs.lookup.Reads as reads
-use Rattle.dictionary.proofs.lookup.Lts as lts
-use Rattle.dictionary.proofs.key_of.Reads as key-of-reads
-use Rattle.dictionary.proofs.kind_numbered.Reads as kind-numbered-reads
 
 -- keys before lo are below the key looked for, keys from hi on are above it
 abbrev Inv-loop : tie.InvT-loop

@@ -1,6 +1,5 @@
 -- `answer::failed::put_failed` meets its contract: what is held, then the header in front of it. Assumes nothing.
 use mathlib.Core.Path.{refl}
-use Prim.Native.Nat.{_-_}
 use native.Mathlib.Omega.{arith}
 use Rattle.wire.proofs.PutLaws.{wrote-same}
 use Rattle.paper.specs.Profile.{failedAvp}

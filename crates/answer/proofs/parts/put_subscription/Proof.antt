@@ -1,6 +1,5 @@
 -- `answer::parts::put_subscription` meets its contract: the parts, then the header in front of them. Assumes nothing.
 use mathlib.Core.Path.{refl}
-use Prim.Native.Nat.{_-_}
 use native.Mathlib.Omega.{arith}
 use Rattle.wire.proofs.PutLaws.{wrote-then, wrote-same}
 use Rattle.paper.specs.Profile.{subscriptionData}

@@ -1,6 +1,6 @@
 -- `grant` meets its contract: the procedures carried out, then the answer of success.
 -- Assumes nothing.
-use mathlib.Core.Path.{_≡_, sym, ap, _∙_}
+use mathlib.Core.Path.{_≡_, _∙_}
 use Rattle.paper.specs.Asked.{imeiDigitsOf}
 use native.Mathlib.Omega.{arith}
 use Rattle.paper.specs.Outcome.{Lent, successItems}

@@ -1,6 +1,7 @@
 -- `request::accept::accept` meets its contract. Assumes nothing.
 use Rattle.paper.specs.Request.{imeiOf}
-use Rattle.request.proofs.HeldLaws.{imei-standing, sought-span}
+use Rattle.paper.proofs.ShownLaws.{imei-standing}
+use Rattle.request.proofs.HeldLaws.{sought-span}
 use Rattle.request.proofs.JudgeLaws.{own-command}
 use borrow.Author.Needs.{needs}
 use Rattle.request.proofs.accept.accept.Statement.{statement}

@@ -5,7 +5,8 @@ use Rattle.paper.specs.Request.{commandCode, avpsOf, find, valueOf, numberOf, i
 use Rattle.paper.specs.Asked.{flagsKey, askedOf}
 use Rattle.request.specs.Place.{soughtOf}
 use Rattle.request.specs.Profile.{keyAt}
-use Rattle.request.proofs.HeldLaws.{top-standing, imei-standing, sought-inside, sought-number, sought-there}
+use Rattle.paper.proofs.ShownLaws.{top-standing, imei-standing}
+use Rattle.request.proofs.HeldLaws.{sought-inside, sought-number, sought-there}
 use Rattle.request.proofs.JudgeLaws.{own-command, command-read}
 use borrow.Author.Needs.{needs}
 use Rattle.request.proofs.accept.asked_of.Statement.{statement}

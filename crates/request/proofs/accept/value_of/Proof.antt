@@ -1,7 +1,8 @@
 -- `request::accept::value_of` meets its contract. Assumes nothing.
 use Rattle.paper.specs.Request.{avpsOf, find, valueOf}
 use Rattle.request.specs.Profile.{keyAt}
-use Rattle.request.proofs.HeldLaws.{top-standing, sought-span}
+use Rattle.paper.proofs.ShownLaws.{top-standing}
+use Rattle.request.proofs.HeldLaws.{sought-span}
 use borrow.Author.Needs.{needs}
 use Rattle.request.proofs.accept.value_of.Statement.{statement}
 use Rattle.request.proofs.accept.value_of.Tie as tie

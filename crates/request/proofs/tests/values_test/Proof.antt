@@ -7,7 +7,8 @@ use lib.ListN.{length}
 use Rattle.paper.specs.Profile.{userName, originHost, visitedPlmnId}
 use Rattle.paper.specs.Request.{Refusal, ifUsed, imeiOf, valueTest, valuesTest, imsiDigits, isName, threeBytes, imeiDigits}
 use Rattle.request.specs.Test.{Answers}
-use Rattle.request.proofs.HeldLaws.{used-standing, imei-standing, sought-inside}
+use Rattle.paper.proofs.ShownLaws.{used-standing, imei-standing}
+use Rattle.request.proofs.HeldLaws.{sought-inside}
 use Rattle.request.proofs.ChainLaws.{Left, goes-on, stops, ends}
 use Rattle.request.proofs.JudgeLaws.{value-judged}
 use borrow.Author.Needs.{needs}
