@@ -32,6 +32,7 @@ run_test second-named "named cases, by the second program" named_cases build/sec
 run_test second-desk "desk cases, by the second program" desk_cases build/second desk
 run_test tally "50,000 generated cases reach every row of the tally" tally 1 50000
 run_test reader "the proved reader and the second program agree on more than 20,000 messages" reader_compare 1 6000
+run_test origin-host "the public call and the second program give the same Origin-Host of each of these messages" origin_hosts
 run_test library "the C library and the harness compile without a warning" build_harness dymosaw tests/harness.c build/harness
 run_test corrections "20,000 generated corrections through the C library and the second program" compare_cases build/second corrections 1 20000
 run_test library-named "named cases, by the C library" named_cases "${x86_run[@]}" build/harness

@@ -82,6 +82,21 @@ reader_compare() { # SEED COUNT
     python3 tests/reader_compare.py "$out/messages" "$out/proved" "$out/second"
 }
 
+# Origin-Host of the same messages, by the public call and by the second program: the same bytes, and thousands of messages with and without one.
+origin_hosts() {
+    local out=build/reader
+    build/second hosts <"$out/messages" >"$out/hosts.second" && "${x86_run[@]}" "$out/harness" hosts <"$out/messages" >"$out/hosts" || return 1
+    cmp "$out/hosts" "$out/hosts.second" && python3 -c '
+import struct, sys
+told, at, sizes = sys.stdin.buffer.read(), 0, []
+while at < len(told):
+    sizes += struct.unpack_from(">I", told, at)
+    at += 4 + sizes[-1]
+empty = sizes.count(0)
+print(len(sizes), "messages,", empty, "without an Origin-Host, the longest", max(sizes))
+sys.exit(empty < 1000 or len(sizes) - empty < 1000)' <"$out/hosts"
+}
+
 # Generated cases through the C library (or the program $harness) and through the second program, by pipes; the results have to be the same bytes, and some.
 compare_cases() { # MAKER..
     local ours theirs

@@ -23,7 +23,7 @@ use dictionary::Dictionary;
 use std::io::{self, BufReader, BufWriter, Read, StdinLock, Write};
 
 const USAGE: &str =
-    "usage: second cases | desk | read | gen SEED COUNT | corrections SEED COUNT | runs SEED RUNS STEPS \
+    "usage: second cases | desk | read | hosts | gen SEED COUNT | corrections SEED COUNT | runs SEED RUNS STEPS \
     | desks SEED | widened SEED PAIRS | widened-mandatory SEED PAIRS | tally | named FILE | expected FILE";
 
 fn main() {
@@ -51,6 +51,7 @@ fn run(dictionary: &Dictionary, words: &[&str]) -> io::Result<i32> {
         ["cases"] => cases(dictionary, &mut input, &mut out)?,
         ["desk"] => desk::run(dictionary, &mut input, &mut out)?,
         ["read"] => read(dictionary, &mut input, &mut out)?,
+        ["hosts"] => hosts(dictionary, &mut input, &mut out)?,
         ["gen", seed, count] => gen::run(dictionary, whole(seed)?, whole(count)?, &mut out)?,
         ["corrections", seed, count] => gen::corrections(whole(seed)?, whole(count)?, &mut out)?,
         ["runs", seed, runs, steps] => gen::runs(dictionary, whole(seed)?, whole(runs)?, whole(steps)?, &mut out)?,
@@ -87,6 +88,14 @@ fn read(dictionary: &Dictionary, input: &mut impl Read, out: &mut impl Write) ->
         for number in reader::verdict(dictionary, &message) {
             out.write_all(&number.to_be_bytes())?;
         }
+    }
+    Ok(())
+}
+
+/// `second hosts`: a field in, the Origin-Host of that message out, as a field.
+fn hosts(dictionary: &Dictionary, input: &mut impl Read, out: &mut impl Write) -> io::Result<()> {
+    while let Some(message) = protocol::next_field(input)? {
+        protocol::write_field(out, &reader::origin_host(dictionary, &message))?;
     }
     Ok(())
 }

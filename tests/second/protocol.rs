@@ -116,7 +116,7 @@ fn read_number(input: &mut impl Read) -> io::Result<u32> {
     Ok(u32::from_be_bytes(bytes))
 }
 
-fn write_field(out: &mut impl Write, bytes: &[u8]) -> io::Result<()> {
+pub fn write_field(out: &mut impl Write, bytes: &[u8]) -> io::Result<()> {
     out.write_all(&(bytes.len() as u32).to_be_bytes())?;
     out.write_all(bytes)
 }

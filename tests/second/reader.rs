@@ -126,6 +126,13 @@ pub fn members(message: &[u8], group: &Avp) -> Vec<Avp> {
     list(message, group.at + group.head(), group.at + group.length)
 }
 
+/// "Origin-Host, once found, is handed on": its data in any message, empty where there is none.
+pub fn origin_host(dictionary: &Dictionary, message: &[u8]) -> Vec<u8> {
+    let key = dictionary.key("Origin-Host");
+    let found = list(message, HEADER, message.len()).into_iter().find(|avp| avp.key() == key);
+    found.map_or(Vec::new(), |avp| avp.data(message).to_vec())
+}
+
 /// "first fault of the visit: wrong length or data size / an entered group, its length right, inside eight others"
 #[derive(Clone, Copy, PartialEq, Eq, Debug)]
 pub enum Fault {

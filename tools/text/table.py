@@ -47,7 +47,9 @@ def show(table):
         for byte, rule in record.faults(bytes_of_record) + order_fault(records, place):
             text.append(f"breaks: record {place}, byte {byte} (byte {HEADER + record.RECORD * place + byte} of the table): {rule}")
     tail = table[HEADER + record.RECORD * len(records):]
-    return text + ([f"# behind the last whole record: {hex_of(tail)}"] if tail else []), not any(line.startswith("breaks: ") for line in text)
+    notes = [] if records else ["# no record"]
+    notes += [f"# behind the last whole record: {hex_of(tail)}"] if tail else []
+    return text + notes, not any(line.startswith("breaks: ") for line in text)
 
 
 def split(lines):

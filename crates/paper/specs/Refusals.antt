@@ -5,16 +5,15 @@ use mathlib.Core.Bool.{Bool, true, false, cond, _&&_, _||_, not}
 use mathlib.Core.Option.{Option, none, some}
 use mathlib.Core.List.{List, [], _∷_, map}
 use Prim.Native.Nat.{ℕ, _+_, _%_}
-use lib.ListN.{length, getD}
+use lib.ListN.{length, getD, take}
 use lib.Dec.{leb, ltb, eqb}
 use Rattle.dictionary.specs.Rows.{keyOf}
 use Rattle.paper.specs.Avp.{bit}
 use Rattle.paper.specs.Reader.{Placed, Avps, whole, broken, more, Faulty}
 use Rattle.paper.specs.Layout.{plmnCountAt}
-use Rattle.paper.specs.Profile.{Key, userName, originHost, ratType, visitedPlmnId, imei}
+use Rattle.paper.specs.Profile.{Key, Command, commands, commandOf, userName, originHost, ratType, visitedPlmnId, imei}
 use Rattle.paper.specs.Table.{valid, lookup, mme, sgsn}
-use Rattle.paper.specs.Request.{versionOf, messageLength, isRequest, isError, commandCode, applicationOf, avpsOf, viewOf, valueOf, numberOf, isThere, find, used, requiredIn, terminal, imeiOf, keyNumber, ifUsed, imsiDigits, isName, threeBytes, imeiDigits}
-use Rattle.paper.specs.Profile.{commandOf}
+use Rattle.paper.specs.Request.{versionOf, messageLength, isRequest, isError, commandCode, applicationOf, avpsOf, viewOf, valueOf, numberOf, isThere, find, has, used, usedIn, requiredIn, terminal, imeiOf, keyNumber, ifUsed, imsiDigits, isName, threeBytes, imeiDigits}
 use Rattle.paper.specs.Procedures.{sender, imsiField, isUlr, isNor, onS6a, hasEps, hasGprs, restrictionOf, hasPlmn, isSender}
 use Rattle.paper.specs.Answer as Answer
 use Rattle.paper.specs.Answer.{Verdict, base}
@@ -123,3 +122,55 @@ pub data First (l : Lent) : List Case → Said → Type 0 where
   none-holds : First l [] (result 2001)
   first : {c : Case} {cs : List Case} → c .holds l ≡ true → First l (c ∷ cs) (c .says)
   later : {c : Case} {cs : List Case} {x : Said} → c .holds l ≡ false → First l cs x → First l (c ∷ cs) x
+
+-- ---- which AVPs 5009 and 5005 speak of
+
+-- an AVP, and the commands that use it
+pub record UsedBy : Type 0 where
+  pub key : Key
+  pub by : List ℕ
+
+abbrev usedRow : ℕ → ℕ → List ℕ → UsedBy
+usedRow vendor code by = record { key = record { vendor = vendor; code = code }; by = by }
+
+-- 01's two sentences AVP by AVP, where the profile has them command by command; what is required comes first, in the order of 5005
+unfoldable pub usedBy : List UsedBy
+usedBy =
+    -- "Required: Session-Id, Auth-Session-State (any value), Origin-Host, Origin-Realm, Destination-Realm, User-Name"
+    usedRow 0 263 (316 ∷ 321 ∷ 323 ∷ []) ∷
+    usedRow 0 277 (316 ∷ 321 ∷ 323 ∷ []) ∷
+    usedRow 0 264 (316 ∷ 321 ∷ 323 ∷ []) ∷
+    usedRow 0 296 (316 ∷ 321 ∷ 323 ∷ []) ∷
+    usedRow 0 283 (316 ∷ 321 ∷ 323 ∷ []) ∷
+    usedRow 0 1 (316 ∷ 321 ∷ 323 ∷ []) ∷
+    -- "for ULR also RAT-Type, ULR-Flags, Visited-PLMN-Id"
+    usedRow 10415 1032 (316 ∷ []) ∷
+    usedRow 10415 1405 (316 ∷ []) ∷
+    usedRow 10415 1407 (316 ∷ []) ∷
+    -- "PUR-Flags in PUR; NOR-Flags in NOR; Terminal-Information in ULR and NOR"
+    usedRow 10415 1635 (321 ∷ []) ∷
+    usedRow 10415 1443 (323 ∷ []) ∷
+    usedRow 10415 1401 (316 ∷ 323 ∷ []) ∷
+    []
+
+-- the commands of the list that use the AVP
+unfoldable pub usersIn : List Command → Key → List ℕ
+usersIn [] k = []
+usersIn (c ∷ cs) k = cond (has k (usedIn (some c))) (c .code ∷ usersIn cs k) (usersIn cs k)
+
+unfoldable pub hasAll : List Key → List Key → Bool
+hasAll [] ks = true
+hasAll (x ∷ xs) ks = has x ks && hasAll xs ks
+
+-- each key that a command uses is one of these
+unfoldable pub useOnly : List Command → List Key → Bool
+useOnly [] ks = true
+useOnly (c ∷ cs) ks = hasAll (usedIn (some c)) ks && useOnly cs ks
+
+-- the profile uses and requires what is said here, and nothing else
+pub record UsedAsSaid : Type 0 where
+  pub each : map (λ u. usersIn commands (u .key)) usedBy ≡ map (λ u. u .by) usedBy
+  pub no-other : useOnly commands (map (λ u. u .key) usedBy) ≡ true
+  pub required-316 : requiredIn (commandOf 316) ≡ take 9 (map (λ u. u .key) usedBy)
+  pub required-321 : requiredIn (commandOf 321) ≡ take 6 (map (λ u. u .key) usedBy)
+  pub required-323 : requiredIn (commandOf 323) ≡ take 6 (map (λ u. u .key) usedBy)
