@@ -178,9 +178,9 @@ static inline uint32_t dymosaw_length(uint64_t result)
  *                     24-    the value
  *
  * Returns DYMOSAW_STORED: of the one record with this IMSI the bytes of the kind hold the value and the change number is one
- * more, 4294967295 going to 0; every other byte of the table is as it was, and the table is valid again.
- * Returns a refusal's number: no byte of the table is changed. The same frame once more is refused with
- * DYMOSAW_CHANGE_DIFFERS.
+ * more, 4294967295 going to 0; every other byte of the table is as it was, and the table is valid again. The same frame once
+ * more is then refused with DYMOSAW_CHANGE_DIFFERS.
+ * Returns a refusal's number: no byte of the table is changed.
  */
 uint32_t dymosaw_correct(uint8_t *table, size_t table_len, const uint8_t *frame, size_t frame_len);
 

@@ -87,6 +87,15 @@ run_session() { # WORDS..
     session >"$out/session" && diff examples/link/session.txt "$out/session" || fail "the session by $*"
 }
 
+# Where the list of nodes to cancel cannot be told, the table stays: it is asked again.
+list_comes_first() { # WORDS..
+    local desk=$out/first
+    mkdir -p "$desk" && "$tool" table make examples/link/table.txt --out "$desk/table" && "$tool" request make examples/link/request.txt --out "$desk/request" &&
+        cp "$desk/table" "$desk/before" || fail "the example's files"
+    "$@" "$desk/table" "$desk/request" hss.example example "$desk/answer" >/dev/full 2>"$desk/told" && fail "link says that all went well on a full disk"
+    cmp "$desk/before" "$desk/table" || fail "the table was changed before the list was told"
+}
+
 install_both
 [ "$(flags --modversion)" = "$(sed -n 's/^VERSION := //p' Makefile)" ] || fail "pkg-config's version"
 [ "$(asks_for)" = "memcpy memset " ] || fail "the library asks for: $(asks_for)"
@@ -97,4 +106,5 @@ else
     run_session "${x86_run[@]}" "$out/static"
 fi
 run_session "${x86_run[@]}" "$out/trapping"
+list_comes_first "${x86_run[@]}" "$out/static"
 echo "installed, compiled and run"

@@ -6,6 +6,7 @@ with 4 breaks a rule for the tool too, and a valid one none; a correction gets t
 """
 import os
 import random
+import re
 import struct
 import subprocess
 import sys
@@ -249,6 +250,10 @@ BAD = [
     (message, HEAD + "\tIMEI: x00", "line 6: a tab stands before the key; use spaces"),
     (message, HEAD + "IMEI [M]: x00", "line 6: an AVP of vendor 10415 has the flag V"),
     (message, HEAD + "IMEI [V, padding x01]: x00", "line 6: the padding has 1 bytes, where 3 belong"),
+    (message, HEAD + 'Session-Id [M, V]: "s"', "line 6: [M, V] says flags twice; it is written [V M, padding x..]"),
+    (message, HEAD + 'Session-Id [M, padding x00, padding xFF]: "s"', "line 6: [M, padding x00, padding xFF] says padding twice; it is written [V M, padding x..]"),
+    (message, HEAD + 'Session-Id [M] P: "s"', "line 6: 'Session-Id [M] P' is no name with one pair of brackets behind it"),
+    (message, HEAD + "a" + 100000 * " " + "b: 1", f"line 6: 'a{100000 * ' '}b' is no AVP of docs/DICTIONARY.md; others are written AVP CODE, or AVP CODE vendor VENDOR"),
     (message, HEAD + "".join(f"{' ' * i}AMBR:\n" for i in range(11)), "line 16: more than 9 groups inside each other; write what the last one holds as rest: xHH.."),
 ]
 
@@ -317,6 +322,12 @@ def command_line():
     expect(tool(["table", "make"], b"record\n\xff") == (1, b"", "dymosaw-text: -: line 2: the text is not UTF-8\n"), "text that is not UTF-8")
     expect(tool(["table", "show", "/no/such/file"], b"") == (2, b"", "dymosaw-text: /no/such/file: No such file or directory\n"), "no file")
     expect(tool(["table", "show", "--hex"], b"0g")[0] == 2 and tool(["tables", "show"], b"")[0] == 2, "usage")
+    expect(tool(["table", "show"], table.make("")) == (0, b"# no record\n", ""), "a table without a record")
+    example = re.search(r"^  record\n(?:  .*\n)+", tool(["--help"], b"")[1].decode("utf-8"), re.M)[0]
+    named, numbered = (example.replace("16 WB-E-UTRAN-Not-Allowed", mask).encode("utf-8") for mask in ("WB-E-UTRAN-Not-Allowed", "bit-4"))
+    expect(tool(["table", "make"], example.encode("utf-8"))[0] == 0 and tool(["table", "make"], named) == tool(["table", "make"], numbered), "the help's example")
+    closed = subprocess.run(["sh", "-c", '"$0" "$1" table show <&-', sys.executable, TOOL], capture_output=True, check=False)
+    expect((closed.returncode, closed.stderr) == (2, b"dymosaw-text: standard input is closed\n"), "closed standard input")
     frame = bytes.fromhex(FRAMES[0][1])
     with tempfile.NamedTemporaryFile() as lent:
         lent.write(VALID)

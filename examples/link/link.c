@@ -134,6 +134,13 @@ static enum status refused(uint32_t number)
     return REFUSED;
 }
 
+/* What was printed has gone out, or the program stops. */
+static void flush(void)
+{
+    if (fflush(stdout) != 0)
+        stop("standard output", strerror(errno));
+}
+
 /* Here the link software would send each node its Cancel-Location-Request. */
 static void show_cancel(const uint8_t *cancel)
 {
@@ -149,6 +156,7 @@ static void show_cancel(const uint8_t *cancel)
     }
     if (i == 0)
         printf("cancel: no node\n");
+    flush();
 }
 
 /* ---- the calls */
@@ -208,7 +216,6 @@ int main(int count, char **argument)
         status = answer_request(argument + 1);
     else
         fprintf(stderr, "usage: link TABLE REQUEST HOST REALM ANSWER-OUT\n       link --correct TABLE FRAME\n");
-    if (fflush(stdout) != 0)
-        stop("standard output", strerror(errno));
+    flush();
     return status;
 }

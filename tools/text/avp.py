@@ -121,10 +121,11 @@ def make_one(line, below, groups):
 
 
 def split_brackets(key):
-    match = re.fullmatch(r"([^\[\]]*?)\s*(?:\[([^\[\]]*)\])?", key)
-    if not match:
+    name, opened, rest = key.partition("[")
+    inside, closed, behind = rest.partition("]")
+    if "]" in name or "[" in inside or behind or opened and not closed:
         raise Reason(f"'{key}' is no name with one pair of brackets behind it")
-    return match[1], [word.strip() for word in match[2].split(",")] if match[2] is not None else []
+    return name.rstrip(), [word.strip() for word in inside.split(",")] if opened else []
 
 
 def key_of(name):
@@ -140,12 +141,12 @@ def key_of(name):
 
 
 def make_brackets(words, vendor):
-    flags, padding = usual_flags(vendor), None
-    for word in words:
-        if word.startswith("padding "):
-            padding = from_hex(word[len("padding "):])
-        else:
-            flags = FLAGS.make("" if word == "no flags" else word)[0]
+    paddings = [word[len("padding "):] for word in words if word.startswith("padding ")]
+    others = [word for word in words if not word.startswith("padding ")]
+    if len(paddings) > 1 or len(others) > 1:
+        raise Reason(f"[{', '.join(words)}] says {'flags' if len(others) > 1 else 'padding'} twice; it is written [V M, padding x..]")
+    flags = FLAGS.make("" if others[0] == "no flags" else others[0])[0] if others else usual_flags(vendor)
+    padding = from_hex(paddings[0]) if paddings else None
     if vendor and not flags & V:
         raise Reason(f"an AVP of vendor {vendor} has the flag V")
     return flags, padding

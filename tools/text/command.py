@@ -10,14 +10,16 @@ DONE, REFUSED, FAULT = 0, 1, 2
 ABOUT = """Turns a table, a correction, a request or an answer into readable text (show), and text into bytes (make).
 Without FILE it reads standard input, without --out it writes to standard output. Records are counted from 0.
 
-Text is one 'key: value' a line; what starts with # is a comment. A table has a line 'record' before each record, in any order; a field left out is zero:
+Text is one 'key: value' a line; a line that starts with # is a comment. A table has a line 'record' before each record, in any order; a field left out is zero:
 
   record
   IMSI: 262011234567890
   change number: 7
   subscription: EPS GPRS
-  Access-Restriction-Data: 16 WB-E-UTRAN-Not-Allowed       the number, the names, or both
-  PLMNs: 262-01 001-01                                     or x and six hex digits; none: everywhere
+  # the number, the names, or both
+  Access-Restriction-Data: 16 WB-E-UTRAN-Not-Allowed
+  # or x and six hex digits; none: everywhere
+  PLMNs: 262-01 001-01
   purged: MME
   MME: mme.example
   SGSN:
@@ -28,8 +30,9 @@ Text is one 'key: value' a line; what starts with # is a comment. A table has a 
 A correction has kind, IMSI, change number seen, and the fields of its kind (1 subscription, 2 Access-Restriction-Data, 3 PLMNs, 4 AMBR uplink and
 AMBR downlink). A message has flags, command, application, hop-by-hop, end-to-end, then its AVPs by the names of docs/DICTIONARY.md, groups indented.
 
-Exit status: 0 done; 1 the text is bad (its line and the reason are told), or the bytes break a rule of document 01 (lines 'breaks:' in what is shown
-say which, at which byte); 2 usage, or a file cannot be read or written."""
+Exit status: 0 done; 1 the text is bad (its line and the reason are told), a table or a correction breaks a rule of document 01, or a message has no
+whole header (lines 'breaks:' in what is shown say which, at which byte); 2 usage, or a file cannot be read or written. A message is shown as far as it
+can be read: what the registry would say of it is not judged."""
 
 
 class Fault(Exception):
@@ -50,10 +53,16 @@ def arguments(words):
     return given
 
 
+def standard(stream, name):
+    if stream is None:
+        raise Fault(f"standard {name} is closed")
+    return stream.buffer
+
+
 def read(path):
     try:
         if path == "-":
-            return sys.stdin.buffer.read()
+            return standard(sys.stdin, "input").read()
         with open(path, "rb") as file:
             return file.read()
     except OSError as error:
@@ -63,8 +72,9 @@ def read(path):
 def write(path, content):
     try:
         if path == "-":
-            sys.stdout.buffer.write(content)
-            sys.stdout.buffer.flush()
+            out = standard(sys.stdout, "output")
+            out.write(content)
+            out.flush()
         else:
             with open(path, "wb") as file:
                 file.write(content)

@@ -70,7 +70,7 @@ class Bits:
         return (mask if given is None else given).to_bytes(self.width, "big")
 
     def bit(self, word):
-        bit = self.bits.get(word)
+        bit = self.bits.get(word, next((bit for bit in self.names if word == f"bit-{bit}"), None))
         if bit is None or self.rule and bit not in self.names:
             raise Reason(f"'{word}' is none of {', '.join(self.names.values())}" + ("" if self.rule else ", or bit-N"))
         return bit

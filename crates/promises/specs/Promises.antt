@@ -57,7 +57,7 @@ AddedUnsupported =
     (c d : Call) (y t : List ℕ) → Accepting (c .left .verdict) → OneAvp y → kindOf (vendorOf y) (codeOf y) ≡ Unknown → hasM (flagsOf y) ≡ true
     → Inserted kindOf y (drop messageHeader (c .lent .request)) t → Short t → d .lent ≡ asking (c .lent) (withAvps (c .lent .request) t) → d .left ≡ unsupportedOutcome (c .lent) (avpOf y)
 
--- a request without faults whose unknown AVPs have no M comes to what it comes to without them
+-- a request without faults whose unknown AVPs have no M comes to what it comes to without them, where that is success or an Experimental-Result
 abbrev pub StrippedSame : Type 0
 StrippedSame =
     (c d : Call) → Bytes (d .lent .request) → Fits (d .lent .request) → Clear (viewOf (d .lent .request)) → c .lent ≡ asking (d .lent) (strippedRequest (d .lent .request))
@@ -163,7 +163,8 @@ NotBothAccepted =
     (f g : Correction) (between : Calls (f .left .table) (g .table)) → frameImsi (g .frame) ≡ frameImsi (f .frame) → frameSeen (g .frame) ≡ frameSeen (f .frame)
     → f .left .number ≡ 0 → g .left .number ≡ 0 → 2 ^ 32 - 1 ≤ acceptedFor (frameImsi (f .frame)) between
 
--- a clerk whose correction is accepted corrects what was seen: at the same change number all that corrections alter is the same
+-- a clerk whose correction is accepted corrects what was seen: at the same change number, with fewer than 2^32 accepted since, all that corrections alter is
+-- the same
 abbrev pub SameAsSeen : Type 0
 SameAsSeen =
     (imsi t u : List ℕ) (cs : Calls t u) → changeOf (recordWith imsi u) ≡ changeOf (recordWith imsi t) → acceptedFor imsi cs < 2 ^ 32
