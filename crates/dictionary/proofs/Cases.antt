@@ -5,7 +5,7 @@ use mathlib.Core.List.{List, [], _∷_}
 use lib.Dec.{eqb}
 use Rattle.dictionary.specs.declared.Kind.{Kind}
 use Rattle.dictionary.specs.declared.Kind.the-variants.{Four, Eight, Any, Group, Closed, Unknown}
-use Rattle.dictionary.specs.Kinds.{numberOf, kindNumbered, sizeRight, entered, known}
+use Rattle.dictionary.specs.Kinds.{numberOf, kindNumbered, sizeRight}
 use Rattle.dictionary.specs.Rows.{Row, row, rows, keys, kinds, keyOf, keysOf, kindsOf, kindBeside, kindIn, kindOf}
 
 -- a vendor, a code and the kind that a lookup answers
@@ -35,26 +35,24 @@ answered : List Row → Bool
 answered [] = true
 answered (r ∷ rs) = eqb (numberOf (kindOf (r .vendor) (r .code))) (numberOf (r .kind)) && answered rs
 
--- a kind, and of an AVP of that kind: are 4, 8 or 5 bytes of data right, is it entered, is it known
+-- a kind, and of an AVP of that kind: are 4, 8 or 5 bytes of data right
 record Meaning : Type 0 where
   kind : Kind
   four : Bool
   eight : Bool
   five : Bool
-  inside : Bool
-  listed : Bool
 
-abbrev means : Kind → Bool → Bool → Bool → Bool → Bool → Meaning
-means k a b c d e = record { kind = k; four = a; eight = b; five = c; inside = d; listed = e }
+abbrev means : Kind → Bool → Bool → Bool → Meaning
+means k a b c = record { kind = k; four = a; eight = b; five = c }
 
 meanings : List Meaning
 meanings =
-    means Four true false false false true ∷
-    means Eight false true false false true ∷
-    means Any true true true false true ∷
-    means Group true true true true true ∷
-    means Closed true true true false true ∷
-    means Unknown true true true false false ∷
+    means Four true false false ∷
+    means Eight false true false ∷
+    means Any true true true ∷
+    means Group true true true ∷
+    means Closed true true true ∷
+    means Unknown true true true ∷
     []
 
 alike : Bool → Bool → Bool
@@ -67,8 +65,6 @@ meant (m ∷ ms) =
     alike (sizeRight (m .kind) 4) (m .four) &&
     alike (sizeRight (m .kind) 8) (m .eight) &&
     alike (sizeRight (m .kind) 5) (m .five) &&
-    alike (entered (m .kind)) (m .inside) &&
-    alike (known (m .kind)) (m .listed) &&
     meant ms
 
 all-cases : (answered lookups && meant meanings) ≡ true

@@ -1,5 +1,5 @@
 -- What each case of Kind stands for: its number in the arrays, and what document 01 ("The reader") says of the data of such an AVP.
-use mathlib.Core.Bool.{Bool, true, false, cond}
+use mathlib.Core.Bool.{Bool, true, cond}
 use Prim.Native.Nat.{ℕ}
 use lib.Dec.{eqb}
 use Rattle.dictionary.specs.declared.Kind.{Kind}
@@ -27,21 +27,3 @@ sizeRight Any n = true
 sizeRight Group n = true
 sizeRight Closed n = true
 sizeRight Unknown n = true
-
--- "Groups of the dictionary are entered, except Proxy-Info (284) and Failed-AVP (279). Unknown AVPs are not entered."
-abbrev pub entered : Kind → Bool
-entered Four = false
-entered Eight = false
-entered Any = false
-entered Group = true
-entered Closed = false
-entered Unknown = false
-
--- the dictionary has a row for it
-abbrev pub known : Kind → Bool
-known Four = true
-known Eight = true
-known Any = true
-known Group = true
-known Closed = true
-known Unknown = false

@@ -19,6 +19,7 @@ pub mod EntryLaws
 pub mod Everything
 pub mod FieldLaws
 pub mod FlagBits
+pub mod KindLaws
 pub mod ListedLaws
 pub mod NameLaws
 pub mod Narrow

@@ -36,7 +36,7 @@ use Rattle.paper.proofs.WrittenLaws.{bytes-body}
 use Rattle.paper.proofs.Stripped.{widened-stripped}
 use Rattle.paper.proofs.TestLaws.{or-false-left, or-false-right}
 use Rattle.paper.proofs.NewerTree.{view-refused}
-use Rattle.paper.proofs.NewerFacts.{leafKind, leaf-not-group, leaf-not-unknown}
+use Rattle.paper.proofs.KindLaws.{leaf-not-group, leaf-not-unknown}
 use Rattle.paper.proofs.NewerRequest.{command-kept, passes-clear, clear-seen}
 use Rattle.paper.proofs.NewerAccepted.{accepted-least, accepted-passes}
 use Rattle.paper.proofs.Newer.{newer-same}
@@ -235,7 +235,7 @@ module _ (m t : List ℕ) (least : leastRequest ≤ length m) (most : messageHea
   -- each bit of a 4-byte AVP of which the command makes no use
   pub word-widens : (k : ℕ) → k < 32 → {x : List ℕ} → OneAvp x → Bytes x → kindOf (vendorOf x) (codeOf x) ≡ Four
       → spareBit (commandCode m) (vendorOf x) (codeOf x) k ≡ true → Replaced x (wordFlipped k x) (drop messageHeader m) t → WidenedRequest m (withAvps m t) none
-  unfolding wordFlipped leafKind
+  unfolding wordFlipped
   word-widens k h {x} o y f e r =
       let d : List ℕ = be 4 (flipped k (numAt 4 (bodyOf x) 0)) in
       let l = headSize-most (flagsOf x) in

@@ -28,7 +28,7 @@ use Rattle.paper.specs.Outcome.{Lent, Outcome, silent, answered, refusal
 use Rattle.paper.specs.Newer.{below, uses, bitsOf, namedBits, namedUse, seenBy, WidenedRequest, asking, unsupportedAnswer, unsupportedOutcome, Accepted, success, withAvps}
 use Rattle.paper.specs.Widened.{OneAvp, ifMandatory, done, keep, enter, add}
 use Rattle.paper.proofs.Cover.{widened-refl, widened-append}
-use Rattle.paper.proofs.NewerFacts.{leafKind, leaf-not-group, leaf-not-unknown}
+use Rattle.paper.proofs.KindLaws.{leaf-not-group, leaf-not-unknown}
 use Rattle.paper.proofs.Newer.{newer-same}
 
 -- what a request comes to, in the open
@@ -158,7 +158,7 @@ one-by : (x : List ℕ) → leb (headSize (flagsOf x)) (lengthOf x) ≡ true →
 one-by x l e = record { long = leb-true _ _ l; exact = e }
 
 wider-widens : WidenedRequest attach wider none
-unfolding lent wider seenBy uses below namedBits namedUse bitsOf ifMandatory leafKind
+unfolding lent wider seenBy uses below namedBits namedUse bitsOf ifMandatory
 wider-widens =
     record {
       header = record { version = refl; request = refl; proxiable = refl; error = refl; rest = refl };

@@ -1,7 +1,6 @@
 -- The three commands: which AVPs each looks for, what it sees of them, and what kinds the dictionary gives them, by computation.
 -- Assumes nothing.
 use mathlib.Core.Path.{_≡_, refl, sym, _∙_}
-use mathlib.Core.Logic.{_≢_}
 use mathlib.Core.Bool.{Bool, true, false, _&&_, _||_, not, false≢true}
 use mathlib.Core.Option.{Option, none, some}
 use mathlib.Core.List.{List, [], _∷_, map}
@@ -10,7 +9,7 @@ use lib.Dec.{eqb}
 use borrow.Author.Tests.{eqb-true, not-true}
 use Rattle.wire.proofs.ListLaws.{and-true-left, and-true-right}
 use Rattle.dictionary.specs.Rows.{keyOf, kindOf, keysOf, kindsOf, kindBeside, kindIn, keys, kinds, rows}
-use Rattle.dictionary.specs.Kinds.{known, entered, kindNumbered}
+use Rattle.dictionary.specs.Kinds.{kindNumbered}
 use Rattle.dictionary.specs.declared.Kind.{Kind}
 use Rattle.dictionary.specs.declared.Kind.the-variants.{Group, Unknown}
 use Rattle.paper.specs.Find.{member}
@@ -18,20 +17,9 @@ use Rattle.paper.specs.Profile.{Key, commands, commandIn, commandOf, ulr
 use Rattle.paper.specs.Request.{has, usedIn, requiredIn, terminal, keyNumber}
 use Rattle.paper.specs.Newer.{topLevel, uses, namedBits, ofBits, namedUse, seenBy}
 use Rattle.paper.proofs.CommandLaws.{Recognized, by-command}
+use Rattle.paper.proofs.KindLaws.{known, leafKind}
 
 -- ---- what each sees
-
--- known, and not a group that is entered
-unfoldable pub leafKind : Kind → Bool
-leafKind k = known k && not (entered k)
-
-pub leaf-not-group : (k : Kind) → leafKind k ≡ true → k ≢ Group
-unfolding leafKind
-leaf-not-group k e g = false≢true (rw g at e)
-
-pub leaf-not-unknown : (k : Kind) → leafKind k ≡ true → k ≢ Unknown
-unfolding leafKind
-leaf-not-unknown k e u = false≢true (rw u at e)
 
 -- the command looks for the key at the top level, and sees `see` of what it finds
 pub record Sees (c : ℕ) (k : Key) (see : List ℕ → List ℕ) : Type 0 where
@@ -100,7 +88,7 @@ pub record Facts (c : ℕ) : Type 0 where
   pub keys : allKnown (map keyNumber (usedIn (commandOf c))) ≡ true
 
 pub facts : {c : ℕ} → Recognized c → Facts c
-unfolding allSeen allKnown has requiredIn isWhole isSeen namedBits uses member commandOf commands commandIn usedIn keyOf leafKind kindOf kindIn kindBeside kindNumbered keys kinds keysOf kindsOf rows
+unfolding allSeen allKnown has requiredIn isWhole isSeen namedBits uses member commandOf commands commandIn usedIn keyOf kindOf kindIn kindBeside kindNumbered keys kinds keysOf kindsOf rows
 facts r =
     by-command Facts
     (record { session = refl; user = refl; host = refl; proxy = refl; plmn = refl; terminal = refl; required = refl; keys = refl })
@@ -119,7 +107,7 @@ pub record OwnFacts : Type 0 where
   pub terminalGroup : kindOf 10415 1401 ≡ Group
 
 pub ownFacts : OwnFacts
-unfolding allKnown isWhole isSeen namedBits uses member commandOf commands commandIn usedIn keyOf leafKind kindOf kindIn kindBeside kindNumbered keys kinds keysOf kindsOf rows
+unfolding allKnown isWhole isSeen namedBits uses member commandOf commands commandIn usedIn keyOf kindOf kindIn kindBeside kindNumbered keys kinds keysOf kindsOf rows
 ownFacts =
     record {
       rat = refl;

@@ -18,7 +18,8 @@ use Rattle.paper.proofs.TestLaws.{or-implies, or-right, or-only}
 use Rattle.paper.proofs.CommandLaws.{Recognized}
 use Rattle.paper.proofs.NewerTree.{Tree, known-inside, firstKids, seenFound}
 use Rattle.paper.proofs.NewerUse.{usedPart, first-kept, each-kept, kids-kept, second-kept}
-use Rattle.paper.proofs.NewerFacts.{Sees, facts, ownFacts, isSeen, allSeen, sees-named, sees-whole, named-whole, isWhole, leaf-not-group, leaf-not-unknown, unknown-outside}
+use Rattle.paper.proofs.NewerFacts.{Sees, facts, ownFacts, isSeen, allSeen, sees-named, sees-whole, named-whole, isWhole, unknown-outside}
+use Rattle.paper.proofs.KindLaws.{leaf-not-group, leaf-not-unknown}
 
 -- ---- an AVP that was found, by its data
 

@@ -1,7 +1,7 @@
 -- The AVPs that the promise says an answer holds: their bytes are those that are written, and the dictionary knows them.
 -- Assumes nothing.
 use mathlib.Core.Path.{_≡_, refl, sym, ap, _∙_}
-use mathlib.Core.Bool.{Bool, true, false, cond, not, false≢true}
+use mathlib.Core.Bool.{Bool, true, false, cond, not}
 use mathlib.Core.Option.{Option, none, some}
 use mathlib.Core.List.{List, [], _++_, append-nil}
 use Prim.Native.Nat.{ℕ, _+_, _-_, _≤_}
@@ -11,7 +11,7 @@ use lib.ListN.{length}
 use Rattle.wire.specs.Number.{be, numAt}
 use Rattle.dictionary.specs.declared.Kind.{Kind}
 use Rattle.dictionary.specs.declared.Kind.the-variants.{Four, Any, Group, Closed}
-use Rattle.dictionary.specs.Kinds.{kindNumbered, sizeRight, entered, known}
+use Rattle.dictionary.specs.Kinds.{kindNumbered, sizeRight}
 use Rattle.dictionary.specs.Rows.{kindOf, kindIn, kindBeside, keyOf, keys, kinds, rows, keysOf, kindsOf}
 use Rattle.paper.specs.Avp.{Avp, Writable, asReceived}
 use Rattle.paper.specs.Reader.{Placed, Avps, whole, broken, more, mostGroups}
@@ -25,6 +25,7 @@ use Rattle.paper.specs.Answer.{item, numberItem, Verdict, resultItem, ec
 use Rattle.paper.specs.Outcome.{successItems}
 use Rattle.paper.specs.Refusals.{saidBy}
 use Rattle.paper.specs.ReadBack.{Held, no-more, a-number, a-text, a-group, _and-then_, tells, resultPart, firstPart, eachPart, unechoed, subscriptionPart, setsBit, successPart, failedBy, failedPart, isShown, holds}
+use Rattle.paper.proofs.KindLaws.{leafKind, leaf-not-group, leaf-not-unknown}
 use Rattle.paper.proofs.OptionLaws.{Holds}
 use Rattle.paper.proofs.ReadBackAvps.{bytesOf, bytes-then, Fitting, Sound, sound-then}
 use Rattle.paper.proofs.ReadBackPlaces.{withFailed, ownKey, own-key}
@@ -58,15 +59,14 @@ unless-made : {left : ℕ} (b : Bool) {h : Held} {x : List ℕ} → Made left h 
 unless-made true p = none-made
 unless-made false p = p
 
--- an AVP that is not entered
-fitting : (kind : Kind) (k : Key) (x : List ℕ) → ownKey k ≡ true → kindOf (k .vendor) (k .code) ≡ kind → entered kind ≡ false → known kind ≡ true → sizeRight kind (length x) ≡ true
-    → Fitting k x
-fitting kind k x o e g u s =
+-- an AVP that is known and not entered
+fitting : (kind : Kind) (k : Key) (x : List ℕ) → ownKey k ≡ true → kindOf (k .vendor) (k .code) ≡ kind → leafKind kind ≡ true → sizeRight kind (length x) ≡ true → Fitting k x
+fitting kind k x o e u s =
     record {
       kind = kind;
       key = record { own = own-key k o; known = e };
-      no-group = λ q. false≢true (sym g ∙ ap entered q);
-      no-stranger = λ q. false≢true (sym (ap known q) ∙ u);
+      no-group = leaf-not-group kind u;
+      no-stranger = leaf-not-unknown kind u;
       size = s;
     }
 
@@ -75,10 +75,10 @@ unfolding bytesOf
 plain-made k x f = record { bytes = append-nil (item k x); sound = (f, tt) }
 
 number-made : {left : ℕ} (k : Key) (n : ℕ) → ownKey k ≡ true → kindOf (k .vendor) (k .code) ≡ Four → Made left (a-number k n) (numberItem k n)
-number-made k n o e = plain-made k (be 4 n) (fitting Four k (be 4 n) o e refl refl refl)
+number-made k n o e = plain-made k (be 4 n) (fitting Four k (be 4 n) o e refl refl)
 
 text-made : {left : ℕ} (k : Key) (x : List ℕ) → ownKey k ≡ true → kindOf (k .vendor) (k .code) ≡ Any → Made left (a-text k x) (item k x)
-text-made k x o e = plain-made k x (fitting Any k x o e refl refl refl)
+text-made k x o e = plain-made k x (fitting Any k x o e refl refl)
 
 group-made : {left : ℕ} (k : Key) {inner : Held} {x : List ℕ} → ownKey k ≡ true → kindOf (k .vendor) (k .code) ≡ Group → 1 ≤ left → Made (left - 1) inner x → Made left (a-group k inner) (item k x)
 unfolding bytesOf
@@ -99,7 +99,7 @@ proxies-made (broken p) = none-made
 proxies-made (more p rest) = go (hasKey 0 284 (p .avp)) (proxies-made rest)
   where
     own : Fitting proxyInfo (p .avp .body)
-    own = fitting Closed proxyInfo (p .avp .body) refl refl refl refl refl
+    own = fitting Closed proxyInfo (p .avp .body) refl refl refl refl
 
     go : (b : Bool) → Made mostGroups (eachPart proxyInfo rest) (eachOf proxyInfo rest)
         → Made mostGroups (cond b (a-text proxyInfo (p .avp .body)) no-more and-then eachPart proxyInfo rest) (cond b (item proxyInfo (p .avp .body) ++ eachOf proxyInfo rest) (eachOf proxyInfo rest))
@@ -115,7 +115,7 @@ result-made (Answer.experimental code) =
 failed-made : (o : Option Avp) → Holds Writable o → Made mostGroups (failedPart o) (failedItem o)
 unfolding failedPart failedItem bytesOf ownKey dictionary
 failed-made none w = none-made
-failed-made (some a) w = record { bytes = append-nil (item failedAvp (asReceived a)); sound = (fitting Closed failedAvp (asReceived a) refl refl refl refl refl, (w, tt)) }
+failed-made (some a) w = record { bytes = append-nil (item failedAvp (asReceived a)); sound = (fitting Closed failedAvp (asReceived a) refl refl refl refl, (w, tt)) }
 
 subscription-made : (r : List ℕ) → Made mostGroups (subscriptionPart r) (subscriptionItem r)
 unfolding subscriptionPart subscriptionOf restrictionItem ownKey dictionary
