@@ -44,6 +44,7 @@ mod PromiseExamples
 pub mod PromiseFields
 pub mod PromiseNodes
 pub mod PromiseNor
+pub mod PromiseNumbers
 pub mod PromisePur
 pub mod PromiseRefusals
 pub mod PromiseRun

@@ -5,11 +5,13 @@ use mathlib.Core.Logic.{_↔_}
 use mathlib.Core.Bool.{Bool, true, false, cond, _&&_, not}
 use mathlib.Core.Option.{Option, none, some}
 use mathlib.Core.List.{List, [], _∷_}
-use Prim.Native.Nat.{ℕ}
+use Prim.Native.Nat.{ℕ, zero, suc, _+_, _*_}
 use lib.ListN.{getD}
 use lib.Dec.{ltb}
+use Rattle.wire.specs.Put.{part}
+use Rattle.wire.specs.Stretch.{same}
+use Rattle.wire.proofs.ListLaws.{and-true-left, and-true-right}
 use Rattle.paper.specs.Reader.{orElse}
-use Rattle.paper.specs.Layout.{plmnCountAt}
 use Rattle.paper.specs.Table.{lookup, recordOf, mme, sgsn}
 use Rattle.paper.specs.Profile.{ratType, visitedPlmnId}
 use Rattle.paper.specs.Request.{Refusal, valueOf, numberOf}
@@ -17,7 +19,7 @@ use Rattle.paper.specs.Procedures.{sender, imsiField, isUlr, isNor, onS6
 use Rattle.paper.specs.Procedures as Procedures
 use Rattle.paper.specs.Clerks.{isNone, recordAtPlace, recordWith}
 use Rattle.paper.specs.Outcome.{Lent, Outcome, silent, answered, refusalReply, experimentalReply, successReply, byVerdict, byRecord, byRefusal, outcome}
-use Rattle.paper.specs.Refusals.{Said, number, result, experimental, saidBy, said, ratPasses, Case, refusals, First, none-holds, first, later}
+use Rattle.paper.specs.Refusals.{Said, number, result, experimental, saidBy, said, ratPasses, someBelow, listsPlmn, Case, refusals, First, none-holds, first, later}
 use Rattle.paper.proofs.PromiseTests.{refusedBy, request-said, rat-refused}
 
 -- ---- over any list of cases
@@ -57,16 +59,21 @@ unfolding judgedBy
 judged-if true code d = refl
 judged-if false code d = refl
 
+plmn-listed : (plmn r : List ℕ) (n : ℕ) → hasPlmn plmn r n ≡ someBelow (λ k. same (part (32 + 3 * k) 3 r) plmn) n
+unfolding hasPlmn someBelow
+plmn-listed plmn r zero = refl
+plmn-listed plmn r (suc n) = rw (plmn-listed plmn r n)
+
 abbrev ofRecord : List ℕ → List ℕ → Said
 ofRecord m r =
     cond (isUlr m && cond (onS6a m) (not (hasEps r)) (not (hasEps r) && not (hasGprs r))) (experimental 5420)
     (cond (isUlr m && not (ratPasses (numberOf ratType m) (restrictionOf r))) (experimental 5421)
-    (cond (isUlr m && (ltb 0 (getD r plmnCountAt 0) && not (hasPlmn (valueOf visitedPlmnId m) r (getD r plmnCountAt 0)))) (experimental 5004)
+    (cond (isUlr m && (ltb 0 (getD r 28 0) && not (listsPlmn r (valueOf visitedPlmnId m)))) (experimental 5004)
     (cond (isNor m && (not (isSender mme (sender m) r) && not (isSender sgsn (sender m) r))) (experimental 5423) (result 2001))))
 
 record-judged : (m r : List ℕ) → judgedBy (Procedures.experimental m r) (result 2001) ≡ ofRecord m r
 unfolding Procedures.experimental unsubscribed plmnRefused stranger
-record-judged m r = simp (judged-or-else, judged-if, rat-refused)
+record-judged m r = simp (judged-or-else, judged-if, rat-refused, plmn-listed)
 
 -- ---- the outcome
 
@@ -98,3 +105,18 @@ outcome-said l = simp (silent-said, refusal-said, request-said, record-said)
 pub first-that-applies : (l : Lent) (x : Said) → (said (outcome l) ≡ x) ↔ First l refusals x
 first-that-applies l x =
     ((λ e. subst (First l refusals) (sym (outcome-said l) ∙ e) (said-first l refusals)), (λ f. outcome-said l ∙ first-said f))
+
+-- ---- what holds of all that can be said
+
+unfoldable pub allSay : (Said → Bool) → List Case → Bool
+allSay P [] = P (result 2001)
+allSay P (c ∷ cs) = P (c .says) && allSay P cs
+
+first-says : (P : Said → Bool) {l : Lent} {cs : List Case} {x : Said} → First l cs x → allSay P cs ≡ true → P x ≡ true
+unfolding allSay
+first-says P none-holds e = e
+first-says P (first {c} {cs} h) e = and-true-left (P (c .says)) (allSay P cs) e
+first-says P (later {c} {cs} h r) e = first-says P r (and-true-right (P (c .says)) (allSay P cs) e)
+
+pub outcome-says : (P : Said → Bool) → allSay P refusals ≡ true → (l : Lent) → P (said (outcome l)) ≡ true
+outcome-says P e l = first-says P (first-that-applies l (said (outcome l)) .0 refl) e

@@ -1,20 +1,22 @@
 -- Promise: a refusal is given in its stated case only. 01's two tables and its Experimental results as one list of cases in their order,
 -- each in the words of the paper; what is said of a request is what the first case that holds says. Assumes nothing.
 use mathlib.Core.Path.{_≡_}
+use mathlib.Core.Logic.{_↔_}
 use mathlib.Core.Bool.{Bool, true, false, cond, _&&_, _||_, not}
 use mathlib.Core.Option.{Option, none, some}
 use mathlib.Core.List.{List, [], _∷_, map}
-use Prim.Native.Nat.{ℕ, _+_, _%_}
+use Prim.Native.Nat.{ℕ, zero, suc, _+_, _*_, _%_}
 use lib.ListN.{length, getD, take}
 use lib.Dec.{leb, ltb, eqb}
+use Rattle.wire.specs.Put.{part}
+use Rattle.wire.specs.Stretch.{same}
 use Rattle.dictionary.specs.Rows.{keyOf}
 use Rattle.paper.specs.Avp.{bit}
 use Rattle.paper.specs.Reader.{Placed, Avps, whole, broken, more, Faulty}
-use Rattle.paper.specs.Layout.{plmnCountAt}
 use Rattle.paper.specs.Profile.{Key, Command, commands, commandOf, userName, originHost, ratType, visitedPlmnId, imei}
 use Rattle.paper.specs.Table.{valid, lookup, mme, sgsn}
 use Rattle.paper.specs.Request.{versionOf, messageLength, isRequest, isError, commandCode, applicationOf, avpsOf, viewOf, valueOf, numberOf, isThere, find, has, used, usedIn, requiredIn, terminal, imeiOf, keyNumber, ifUsed, imsiDigits, isName, threeBytes, imeiDigits}
-use Rattle.paper.specs.Procedures.{sender, imsiField, isUlr, isNor, onS6a, hasEps, hasGprs, restrictionOf, hasPlmn, isSender}
+use Rattle.paper.specs.Procedures.{sender, imsiField, isUlr, isNor, onS6a, hasEps, hasGprs, restrictionOf, isSender}
 use Rattle.paper.specs.Answer as Answer
 use Rattle.paper.specs.Answer.{Verdict, base}
 use Rattle.paper.specs.Clerks.{isNone}
@@ -70,6 +72,15 @@ unfoldable pub ratPasses : ℕ → ℕ → Bool
 ratPasses rat restriction =
     (eqb rat 1000 && not (bit 0 restriction)) || ((eqb rat 1001 && not (bit 1 restriction)) || ((eqb rat 1002 && not (bit 2 restriction)) || ((eqb rat 1003 && not (bit 3 restriction)) || ((eqb rat 1004 && not (bit 4 restriction)) || (eqb rat 1005 && not (bit 4 restriction))))))
 
+-- one of the numbers below `n` passes
+unfoldable pub someBelow : (ℕ → Bool) → ℕ → Bool
+someBelow f zero = false
+someBelow f (suc n) = someBelow f n || f n
+
+-- "count 0–8 of PLMNs; 32–55 hold them, 3 bytes each": one of those that byte 28 counts is this one
+abbrev pub listsPlmn : List ℕ → List ℕ → Bool
+listsPlmn r plmn = someBelow (λ k. same (part (32 + 3 * k) 3 r) plmn) (getD r 28 0)
+
 -- ---- the cases
 
 -- what is said where the case holds
@@ -113,7 +124,7 @@ refusals =
     case (experimental 5001) (λ l. isNone (lookup (imsiField (l .request)) (l .table))) ∷
     judged (experimental 5420) (λ m r. isUlr m && cond (onS6a m) (not (hasEps r)) (not (hasEps r) && not (hasGprs r))) ∷
     judged (experimental 5421) (λ m r. isUlr m && not (ratPasses (numberOf ratType m) (restrictionOf r))) ∷
-    judged (experimental 5004) (λ m r. isUlr m && (ltb 0 (getD r plmnCountAt 0) && not (hasPlmn (valueOf visitedPlmnId m) r (getD r plmnCountAt 0)))) ∷
+    judged (experimental 5004) (λ m r. isUlr m && (ltb 0 (getD r 28 0) && not (listsPlmn r (valueOf visitedPlmnId m)))) ∷
     judged (experimental 5423) (λ m r. isNor m && (not (isSender mme (sender m) r) && not (isSender sgsn (sender m) r))) ∷
     []
 
@@ -122,6 +133,21 @@ pub data First (l : Lent) : List Case → Said → Type 0 where
   none-holds : First l [] (result 2001)
   first : {c : Case} {cs : List Case} → c .holds l ≡ true → First l (c ∷ cs) (c .says)
   later : {c : Case} {cs : List Case} {x : Said} → c .holds l ≡ false → First l cs x → First l (c ∷ cs) x
+
+-- ---- the number that a call returns
+
+abbrev pub isAnswered : Option Verdict → Bool
+isAnswered none = false
+isAnswered (some v) = true
+
+-- The number of the outcome `o` is 0 exactly if the request is answered, be it by a Result-Code or by an Experimental-Result; and else it is one of the
+-- five of "Refusals without an answer", the one that is said.
+pub record NumberSaid (o : Outcome) : Type 0 where
+  pub answered : (o .number ≡ 0) ↔ (isAnswered (o .verdict) ≡ true)
+  pub unanswered : o .verdict ≡ none → eqb (o .number) 3 || (eqb (o .number) 5 || (eqb (o .number) 4 || (eqb (o .number) 1 || eqb (o .number) 2))) ≡ true
+  pub of-result : (code : ℕ) → said o ≡ result code → o .number ≡ 0
+  pub of-experimental : (code : ℕ) → said o ≡ experimental code → o .number ≡ 0
+  pub of-number : (n : ℕ) → said o ≡ number n → o .number ≡ n
 
 -- ---- which AVPs 5009 and 5005 speak of
 

@@ -12,18 +12,19 @@ use Rattle.paper.specs.Outcome.{Lent, Outcome}
 use Rattle.paper.specs.Procedures.{Entry, imsiField, isUlr, isPur, isNor, onS6a}
 use Rattle.paper.specs.Promises.{UpdatesOnS6a, UpdatesOnS6d, AnswersUlr, PurgesUe, Notifies}
 use Rattle.paper.specs.Read.{entriesIn}
-use Rattle.paper.specs.Refusals.{Said, number, result, experimental, said, refusals, First}
+use Rattle.paper.specs.Refusals.{Said, number, result, experimental, said, refusals, First, NumberSaid}
 use Rattle.paper.specs.Untouched.{OnlyItsRecord, NoRecord, NoByte}
 use Rattle.paper.proofs.CorrectionCases.{corrected-cases}
 use Rattle.paper.proofs.CorrectionLaws.{accepted-alters}
 use Rattle.paper.proofs.OutcomeLaws.{outcome-size}
 use Rattle.paper.proofs.PromiseAnswer as paper-answer
 use Rattle.paper.proofs.PromiseNor as paper-nor
+use Rattle.paper.proofs.PromiseNumbers as paper-numbers
 use Rattle.paper.proofs.PromisePur as paper-pur
 use Rattle.paper.proofs.PromiseRefusals as paper-refusals
 use Rattle.paper.proofs.PromiseUlr as paper-ulr
 use Rattle.paper.proofs.PromiseUntouched as paper-untouched
-use Rattle.promises.specs.Promises.{UlrOnS6a, UlrOnS6d, UlrAnswered, PurPurges, NorNotifies, FirstThatApplies, CorrectionCases, OnlyItsRecordTouched, AnswerShort, ResultTouchesNothing, ExperimentalTouchesNothing, NumberTouchesNothing, CorrectionAlters}
+use Rattle.promises.specs.Promises.{UlrOnS6a, UlrOnS6d, UlrAnswered, PurPurges, NorNotifies, FirstThatApplies, NumberAsSaid, CorrectionCases, OnlyItsRecordTouched, AnswerShort, ResultTouchesNothing, ExperimentalTouchesNothing, NumberTouchesNothing, CorrectionAlters}
 use Rattle.promises.proofs.CallLaws.{of-call, of-correction}
 
 -- ---- what a promise reads of a request, its table before and its outcome
@@ -63,6 +64,9 @@ nor-notifies = of-call (λ l o. said o ≡ result 2001 → isNor (l .request) �
 
 pub first-that-applies : FirstThatApplies
 first-that-applies = of-call (λ l o. (x : Said) → (said o ≡ x) ↔ First l refusals x) paper-refusals.first-that-applies
+
+pub number-as-said : NumberAsSaid
+number-as-said = of-call (λ l o. NumberSaid o) paper-numbers.number-said
 
 pub correction-cases : CorrectionCases
 correction-cases = of-correction FirstThatHolds corrected-cases

@@ -23,7 +23,7 @@ use Rattle.paper.specs.Promises.{UpdatesOnS6a, UpdatesOnS6d, AnswersUlr, Purges
 use Rattle.paper.specs.Read.{entriesIn, codesIn}
 use Rattle.paper.specs.ReadBack.{ReadBack}
 use Rattle.paper.specs.Refusals as Refusals
-use Rattle.paper.specs.Refusals.{Said, number, result, said, refusals, First}
+use Rattle.paper.specs.Refusals.{Said, number, result, said, refusals, First, NumberSaid}
 use Rattle.paper.specs.Request.{viewOf}
 use Rattle.paper.specs.Run as Run
 use Rattle.paper.specs.Run.{Step, asks, corrects, Came, asked, put-right, acceptedIn}
@@ -115,6 +115,10 @@ NorNotifies = (c : Call) → Success c → isNor (c .lent .request) ≡ true →
 
 abbrev pub FirstThatApplies : Type 0
 FirstThatApplies = (c : Call) (x : Said) → (said (c .left) ≡ x) ↔ First (c .lent) refusals x
+
+-- the number that a call returns: 0 exactly if it is answered, with a Result-Code or an Experimental-Result, and else one of 3, 5, 4, 1, 2
+abbrev pub NumberAsSaid : Type 0
+NumberAsSaid = (c : Call) → NumberSaid (c .left)
 
 abbrev pub CorrectionCases : Type 0
 CorrectionCases = (c : Correction) → FirstThatHolds (c .table) (c .frame) (c .left)
