@@ -68,6 +68,7 @@ pub mod RecordLaws
 mod RefusalExamples
 pub mod RefusalSizes
 pub mod ReplyShown
+pub mod SaidLaws
 pub mod ShownLaws
 pub mod ShownSizes
 pub mod StandsIn
