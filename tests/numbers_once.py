@@ -23,6 +23,7 @@ CODES_FROM = 257  # codes from here on are looked for; lesser ones, as User-Name
 ELSEWHERE = [
     ("crates/dictionary/s*/*ows.*", None, "the rows of the dictionary are keys; tests/dictionary.py holds them against docs/DICTIONARY.md"),
     ("crates/paper/specs/Refusals.antt", None, "a promise says its numbers itself and does not take them from what it checks"),
+    ("crates/paper/specs/ItsRecord.antt", {256}, "a promise, as above"),
     ("crates/paper/specs/Untouched.antt", {136}, "a promise, as above"),
     ("crates/paper/specs/ReadBack.antt", {10415}, "a promise, as above"),
     ("crates/promises/specs/Promises.antt", {4292}, "a promise, as above"),

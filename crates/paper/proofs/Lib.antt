@@ -46,6 +46,7 @@ pub mod PromiseNodes
 pub mod PromiseNor
 pub mod PromiseNumbers
 pub mod PromisePur
+pub mod PromiseRecord
 pub mod PromiseRefusals
 pub mod PromiseRun
 pub mod PromiseSeconds

@@ -93,7 +93,11 @@ some-first f (suc n) = ap (λ (b : Bool). b || f (suc n)) (some-first f n) ∙ g
     go true = refl
     go false = refl
 
--- the IMSI of a counted record
+-- ---- the IMSI of a record
+
+pub imsi-at : (t : List ℕ) (i : ℕ) → imsiOf (recordOf t i) ≡ part (8 + 256 * i) 16 t
+imsi-at t i = part-of-record t i 0 16 (omega arith) ∙ ap (λ (k : ℕ). part k 16 t) (add-zero (8 + 256 * i))
+
 seek-said : (imsi t : List ℕ) (f : ℕ → Bool) (a n : ℕ) → ((j : ℕ) → same (imsiOf (recordOf t (a + j))) imsi ≡ f j) → isNone (seek imsi t a n) ≡ not (someBelow f n)
 unfolding seek someBelow
 seek-said imsi t f a zero h = refl
@@ -114,10 +118,10 @@ pub no-imsi-said : (imsi t : List ℕ) → isNone (lookup imsi t) ≡ not (lists
 unfolding lookup countOf
 no-imsi-said imsi t =
     seek-said imsi t (λ i. same (part (8 + 256 * i) 16 t) imsi) 0 (numAt 2 t 6)
-    (λ j. ap (λ (k : ℕ). same (imsiOf (recordOf t k)) imsi) (zero-add j)
-    ∙ ap (λ (x : List ℕ). same x imsi) (part-of-record t j 0 16 (omega arith) ∙ ap (λ (k : ℕ). part k 16 t) (add-zero (8 + 256 * j))))
+    (λ j. ap (λ (k : ℕ). same (imsiOf (recordOf t k)) imsi) (zero-add j) ∙ ap (λ (x : List ℕ). same x imsi) (imsi-at t j))
 
--- a counted PLMN
+-- ---- the PLMNs of a record
+
 pub plmn-listed : (plmn r : List ℕ) (n : ℕ) → hasPlmn plmn r n ≡ someBelow (λ k. same (part (32 + 3 * k) 3 r) plmn) n
 unfolding hasPlmn someBelow
 plmn-listed plmn r zero = refl

@@ -7,12 +7,15 @@ use mathlib.Core.List.{List}
 use Prim.Native.Nat.{ℕ, _≤_}
 use lib.ListN.{take}
 use Rattle.paper.specs.Clerks.{recordWith, FirstThatHolds, Alters}
+use Rattle.paper.specs.Correction.{frameImsi}
+use Rattle.paper.specs.ItsRecord.{RequestRecord}
 use Rattle.paper.specs.Layout.{mostEntries}
 use Rattle.paper.specs.Outcome.{Lent, Outcome}
 use Rattle.paper.specs.Procedures.{Entry, imsiField, isUlr, isPur, isNor, onS6a}
 use Rattle.paper.specs.Promises.{UpdatesOnS6a, UpdatesOnS6d, AnswersUlr, PurgesUe, Notifies}
 use Rattle.paper.specs.Read.{entriesIn}
 use Rattle.paper.specs.Refusals.{Said, number, result, experimental, said, refusals, First, NumberSaid}
+use Rattle.paper.specs.Table.{valid}
 use Rattle.paper.specs.Untouched.{OnlyItsRecord, NoRecord, NoByte}
 use Rattle.paper.proofs.CorrectionCases.{corrected-cases}
 use Rattle.paper.proofs.CorrectionLaws.{accepted-alters}
@@ -21,10 +24,12 @@ use Rattle.paper.proofs.PromiseAnswer as paper-answer
 use Rattle.paper.proofs.PromiseNor as paper-nor
 use Rattle.paper.proofs.PromiseNumbers as paper-numbers
 use Rattle.paper.proofs.PromisePur as paper-pur
+use Rattle.paper.proofs.PromiseRecord as paper-record
+use Rattle.paper.proofs.PromiseRecord.{its-record}
 use Rattle.paper.proofs.PromiseRefusals as paper-refusals
 use Rattle.paper.proofs.PromiseUlr as paper-ulr
 use Rattle.paper.proofs.PromiseUntouched as paper-untouched
-use Rattle.promises.specs.Promises.{UlrOnS6a, UlrOnS6d, UlrAnswered, PurPurges, NorNotifies, FirstThatApplies, NumberAsSaid, CorrectionCases, OnlyItsRecordTouched, AnswerShort, ResultTouchesNothing, ExperimentalTouchesNothing, NumberTouchesNothing, CorrectionAlters}
+use Rattle.promises.specs.Promises.{RequestRecordIs, UlrOnS6a, UlrOnS6d, UlrAnswered, PurPurges, NorNotifies, FirstThatApplies, NumberAsSaid, CorrectionCases, OnlyItsRecordTouched, AnswerShort, ResultTouchesNothing, ExperimentalTouchesNothing, NumberTouchesNothing, CorrectionAlters, CorrectionRecordIs}
 use Rattle.promises.proofs.CallLaws.{of-call, of-correction}
 
 -- ---- what a promise reads of a request, its table before and its outcome
@@ -42,6 +47,9 @@ abbrev answer : Outcome → List ℕ
 answer o = take (o .size) (o .answer)
 
 -- ---- 4. What an accepted request does
+
+pub request-record : RequestRecordIs
+request-record = of-call (λ l o. valid (l .table) ≡ true → RequestRecord (l .request) (l .table) (o .table) (was l) (is l o)) paper-record.request-record
 
 pub ulr-on-s6a : UlrOnS6a
 ulr-on-s6a =
@@ -90,3 +98,6 @@ number-touches-nothing = of-call (λ l o. (n : ℕ) → said o ≡ number n → 
 
 pub correction-alters : CorrectionAlters
 correction-alters = of-correction (λ t f x. x .number ≡ 0 → (i : ℕ) × Alters t f (x .table) i) accepted-alters
+
+pub correction-record : CorrectionRecordIs
+correction-record c = its-record (frameImsi (c .frame)) (c .table)

@@ -8,6 +8,7 @@ use mathlib.Core.List.{List, [], _∷_, _++_}
 use Prim.Native.Nat.{ℕ, _-_, _/_, _%_, _^_, _≤_, _<_}
 use lib.ListN.{take, drop, replicate}
 use Rattle.wire.specs.Number.{Bytes}
+use Rattle.wire.specs.Put.{part}
 use Rattle.dictionary.specs.declared.Kind.the-variants.{Unknown}
 use Rattle.dictionary.specs.Rows.{kindOf}
 use Rattle.paper.specs.declared.Verdict.the-variants.{Base}
@@ -16,6 +17,7 @@ use Rattle.paper.specs.Attach.{tableAfter, attachAnswer, attachCancel, attachLe
 use Rattle.paper.specs.Avp.{Avp, codeOf, vendorOf, flagsOf, avpOf, hasM}
 use Rattle.paper.specs.Clerks.{recordWith, standingOf, FirstThatHolds, Alters}
 use Rattle.paper.specs.Correction.{frameImsi, frameSeen}
+use Rattle.paper.specs.ItsRecord.{ItsRecord, RequestRecord}
 use Rattle.paper.specs.Layout.{messageHeader, mostEntries}
 use Rattle.paper.specs.Newer.{WidenedRequest, asking, Accepting, unsupportedOutcome, withAvps, Fits, strippedRequest}
 use Rattle.paper.specs.Procedures.{Entry, imsiField, isUlr, isPur, isNor, onS6a}
@@ -27,7 +29,7 @@ use Rattle.paper.specs.Refusals.{Said, number, result, said, refusals, First, N
 use Rattle.paper.specs.Request.{viewOf}
 use Rattle.paper.specs.Run as Run
 use Rattle.paper.specs.Run.{Step, asks, corrects, Came, asked, put-right, acceptedIn}
-use Rattle.paper.specs.Table.{valid, changeOf}
+use Rattle.paper.specs.Table.{valid, lookup, changeOf}
 use Rattle.paper.specs.Untouched.{OnlyItsRecord, NoRecord, NoByte}
 use Rattle.paper.specs.Widened.{OneAvp, Inserted, Clear}
 use Rattle.reader.specs.Message.{messageOf}
@@ -95,6 +97,10 @@ entries c = entriesIn mostEntries 0 (c .left .cancel)
 
 abbrev pub answerOf : Call → List ℕ
 answerOf c = take (c .left .size) (c .left .answer)
+
+-- which record that is: in a valid table the counted one with the IMSI of User-Name, at one place before and after
+abbrev pub RequestRecordIs : Type 0
+RequestRecordIs = (c : Call) → valid (c .lent .table) ≡ true → RequestRecord (c .lent .request) (c .lent .table) (c .left .table) (before c) (after c)
 
 abbrev pub UlrOnS6a : Type 0
 UlrOnS6a = (c : Call) → Success c → isUlr (c .lent .request) ≡ true → onS6a (c .lent .request) ≡ true → UpdatesOnS6a (c .lent .request) (before c) (after c) (entries c)
@@ -207,6 +213,11 @@ NumberTouchesNothing = (c : Call) (n : ℕ) → said (c .left) ≡ number n → 
 -- a correction that is accepted alters the record that it names, at the change number seen, and nothing else
 abbrev pub CorrectionAlters : Type 0
 CorrectionAlters = (c : Correction) → c .left .number ≡ 0 → (i : ℕ) × Alters (c .table) (c .frame) (c .left .table) i
+
+-- which record it names: in a valid table the counted one with the 16 bytes of the frame from byte 4 on
+abbrev pub CorrectionRecordIs : Type 0
+CorrectionRecordIs =
+    (c : Correction) → valid (c .table) ≡ true → ItsRecord (part 4 16 (c .frame)) (c .table) (lookup (frameImsi (c .frame)) (c .table)) (recordWith (frameImsi (c .frame)) (c .table))
 
 -- ---- 10. Not empty
 
