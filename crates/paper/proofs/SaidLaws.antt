@@ -26,7 +26,7 @@ use Rattle.paper.proofs.TableLaws.{part-of-record}
 -- ---- the AVPs of a command
 
 -- each of the three commands, and any other code
-by-code : (P : ℕ → Type 0) → P 316 → P 321 → P 323 → (c : ℕ) → (eqb c 316 ≡ false → eqb c 321 ≡ false → eqb c 323 ≡ false → P c) → P c
+pub by-code : (P : ℕ → Type 0) → P 316 → P 321 → P 323 → (c : ℕ) → (eqb c 316 ≡ false → eqb c 321 ≡ false → eqb c 323 ≡ false → P c) → P c
 by-code P a b d c other = go (eqb c 316) refl (eqb c 321) refl (eqb c 323) refl
   where
     go : (x : Bool) → eqb c 316 ≡ x → (y : Bool) → eqb c 321 ≡ y → (z : Bool) → eqb c 323 ≡ z → P c
