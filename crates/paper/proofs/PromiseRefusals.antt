@@ -14,12 +14,13 @@ use Rattle.paper.specs.Avp.{bit}
 use Rattle.paper.specs.Reader.{orElse}
 use Rattle.paper.specs.Table.{lookup, recordOf, nameOf}
 use Rattle.paper.specs.Fields.{filled}
+use Rattle.paper.specs.Profile.{key}
 use Rattle.paper.specs.Request.{Refusal, valueOf, numberOf, isName}
 use Rattle.paper.specs.Procedures.{sameName, imsiField, unsubscribed, plmnRefused, stranger, codeIf}
 use Rattle.paper.specs.Procedures as Procedures
 use Rattle.paper.specs.Clerks.{isNone, recordAtPlace, recordWith}
 use Rattle.paper.specs.Outcome.{Lent, Outcome, silent, answered, refusalReply, experimentalReply, successReply, byVerdict, byRecord, byRefusal, outcome}
-use Rattle.paper.specs.Refusals.{Said, number, result, experimental, saidBy, said, key, imsiStored, nameSaid, ratPasses, listsPlmn, isNamed, Case, refusals, First, none-holds, first, later}
+use Rattle.paper.specs.Refusals.{Said, number, result, experimental, saidBy, said, imsiStored, nameSaid, ratPasses, listsPlmn, isNamed, Case, refusals, First, none-holds, first, later}
 use Rattle.paper.proofs.PromiseTests.{refusedBy, request-said, rat-refused}
 use Rattle.paper.proofs.SaidLaws.{no-imsi-said, plmn-listed}
 

@@ -16,10 +16,10 @@ use Rattle.dictionary.specs.declared.Kind.the-variants.{Four, Eight, Any, Group
 use Rattle.dictionary.specs.Kinds.{sizeRight}
 use Rattle.paper.specs.Avp.{bit}
 use Rattle.paper.specs.Reader.{Placed, Avps, whole, broken, more, avps, bodyAt, bare, Faulty, View, orElse, _then_, nothing, faulty, unknown, single, sized, group, each, byKind, viewAvp, view, mostGroups}
-use Rattle.paper.specs.Profile.{Key, Command, commands, commandIn, commandOf}
+use Rattle.paper.specs.Profile.{Key, key, Command, commands, commandIn, commandOf}
 use Rattle.paper.specs.Request.{Refusal, avpsOf, viewOf, isThere, find, keyNumber, versionTest, lengthTest, errorTest, ofFault, faultTest, applicationTest, isCommand, commandTest, ofFound, unsupportedTest, repeated, repeatedTest, firstAbsent, missing, absentTest, valueTest, imsiDigits, isName, threeBytes, imeiDigits, valuesTest, refusal}
 use Rattle.paper.specs.Procedures.{ratBits, ratRefused}
-use Rattle.paper.specs.Refusals.{Said, number, result, experimental, key, requiredSaid, usedSaid, userNameOf, originHostOf, visitedPlmnIdOf, inTerminal, imeiSent, faultOf, twice, lacks, wrong, nameSaid, imsiSaid, imeiSaid, ratPasses}
+use Rattle.paper.specs.Refusals.{Said, number, result, experimental, requiredSaid, usedSaid, userNameOf, originHostOf, visitedPlmnIdOf, inTerminal, imeiSent, faultOf, twice, lacks, wrong, nameSaid, imsiSaid, imeiSaid, ratPasses}
 use Rattle.paper.proofs.PromiseSeconds.{eqb-sym, repeated-twice}
 use Rattle.paper.proofs.SaidLaws.{used-as-said, required-as-said, user-name-said, origin-host-said, visited-plmn-id-said, terminal-said}
 

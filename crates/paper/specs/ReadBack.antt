@@ -15,14 +15,14 @@ use Rattle.paper.specs.declared.Visit.the-variants.{Clean}
 use Rattle.paper.specs.Avp.{Avp, bit, bareOf}
 use Rattle.paper.specs.Reader.{Placed, Avps, whole, broken, more, avps, bodyAt, Faulty, orElse, told}
 use Rattle.paper.specs.Find.{hasKey}
-use Rattle.paper.specs.Profile.{Key}
+use Rattle.paper.specs.Profile.{Key, key}
 use Rattle.paper.specs.Request.{avpsOf, viewOf, find, isThere, valueOf, numberOf, repeated}
 use Rattle.paper.specs.Widened.{shownOf}
 use Rattle.paper.specs.Shown.{stretch}
 use Rattle.paper.specs.ShownIn.{Standing}
 use Rattle.paper.specs.Outcome.{Lent, Outcome, outcome}
 use Rattle.paper.specs.Read.{before, answerIn, codesIn, listedIn}
-use Rattle.paper.specs.Refusals.{Said, number, result, experimental, said, key, requiredSaid, userNameOf, originHostOf, visitedPlmnIdOf, imeiSent, wrong, nameSaid, imsiSaid, imeiSaid, isNamed}
+use Rattle.paper.specs.Refusals.{Said, number, result, experimental, said, requiredSaid, userNameOf, originHostOf, visitedPlmnIdOf, imeiSent, wrong, nameSaid, imsiSaid, imeiSaid, isNamed}
 
 -- ---- what is read in a list of AVPs
 

@@ -15,7 +15,7 @@ use Rattle.dictionary.specs.Rows.{keyOf}
 use Rattle.paper.specs.Avp.{bit}
 use Rattle.paper.specs.Reader.{Placed, Avps, whole, broken, more, Faulty}
 use Rattle.paper.specs.Find.{member}
-use Rattle.paper.specs.Profile.{Key}
+use Rattle.paper.specs.Profile.{Key, key}
 use Rattle.paper.specs.Table.{valid}
 use Rattle.paper.specs.Request.{avpsOf, viewOf, valueOf, numberOf, isThere, find, inside, keyNumber}
 use Rattle.paper.specs.Answer as Answer
@@ -40,9 +40,6 @@ unfoldable pub said : Outcome → Said
 said o = saidBy (o .number) (o .verdict)
 
 -- ---- which AVPs a command requires and uses
-
-abbrev pub key : ℕ → ℕ → Key
-key vendor code = record { vendor = vendor; code = code }
 
 -- an AVP, and the commands that use it
 pub record UsedBy : Type 0 where

@@ -6,13 +6,14 @@ use mathlib.Core.Bool.{true, false}
 use mathlib.Core.List.{List}
 use Prim.Native.Nat.{ℕ, _≤_}
 use lib.ListN.{take}
+use borrow.Author.Tests.{eq-eqb}
+use Rattle.wire.specs.Number.{numAt}
 use Rattle.paper.specs.Clerks.{recordWith, FirstThatHolds, Alters}
 use Rattle.paper.specs.Correction.{frameImsi}
 use Rattle.paper.specs.ItsRecord.{RequestRecord}
-use Rattle.paper.specs.Layout.{mostEntries}
 use Rattle.paper.specs.Outcome.{Lent, Outcome}
-use Rattle.paper.specs.Procedures.{Entry, imsiField, isUlr, isPur, isNor, onS6a}
-use Rattle.paper.specs.Promises.{UpdatesOnS6a, UpdatesOnS6d, AnswersUlr, PurgesUe, Notifies}
+use Rattle.paper.specs.Procedures.{Entry, imsiField}
+use Rattle.paper.specs.Promises.{ulrBit, UpdatesOnS6a, UpdatesOnS6d, AnswersUlr, PurgesUe, Notifies}
 use Rattle.paper.specs.Read.{entriesIn}
 use Rattle.paper.specs.Refusals.{Said, number, result, experimental, said, refusals, First, NumberSaid}
 use Rattle.paper.specs.Table.{valid}
@@ -41,7 +42,7 @@ abbrev is : Lent → Outcome → List ℕ
 is l o = recordWith (imsiField (l .request)) (o .table)
 
 abbrev list : Outcome → List Entry
-list o = entriesIn mostEntries 0 (o .cancel)
+list o = entriesIn 2 0 (o .cancel)
 
 abbrev answer : Outcome → List ℕ
 answer o = take (o .size) (o .answer)
@@ -53,20 +54,28 @@ request-record = of-call (λ l o. valid (l .table) ≡ true → RequestRecord (l
 
 pub ulr-on-s6a : UlrOnS6a
 ulr-on-s6a =
-    of-call (λ l o. said o ≡ result 2001 → isUlr (l .request) ≡ true → onS6a (l .request) ≡ true → UpdatesOnS6a (l .request) (was l) (is l o) (list o)) paper-ulr.ulr-on-s6a
+    of-call (λ l o. said o ≡ result 2001 → numAt 3 (l .request) 5 ≡ 316 → ulrBit 1 (l .request) ≡ true → UpdatesOnS6a (l .request) (was l) (is l o) (list o))
+    (λ l a e. paper-ulr.ulr-on-s6a l a (eq-eqb (numAt 3 (l .request) 5) 316 e))
 
 pub ulr-on-s6d : UlrOnS6d
 ulr-on-s6d =
-    of-call (λ l o. said o ≡ result 2001 → isUlr (l .request) ≡ true → onS6a (l .request) ≡ false → UpdatesOnS6d (l .request) (was l) (is l o) (list o)) paper-ulr.ulr-on-s6d
+    of-call (λ l o. said o ≡ result 2001 → numAt 3 (l .request) 5 ≡ 316 → ulrBit 1 (l .request) ≡ false → UpdatesOnS6d (l .request) (was l) (is l o) (list o))
+    (λ l a e. paper-ulr.ulr-on-s6d l a (eq-eqb (numAt 3 (l .request) 5) 316 e))
 
 pub ulr-answered : UlrAnswered
-ulr-answered = of-call (λ l o. said o ≡ result 2001 → isUlr (l .request) ≡ true → AnswersUlr (l .request) (answer o)) paper-answer.ulr-answered
+ulr-answered =
+    of-call (λ l o. said o ≡ result 2001 → numAt 3 (l .request) 5 ≡ 316 → AnswersUlr (l .request) (answer o))
+    (λ l a e. paper-answer.ulr-answered l a (eq-eqb (numAt 3 (l .request) 5) 316 e))
 
 pub pur-purges : PurPurges
-pur-purges = of-call (λ l o. said o ≡ result 2001 → isPur (l .request) ≡ true → PurgesUe (l .request) (was l) (is l o) (list o) (answer o)) paper-pur.pur-purges
+pur-purges =
+    of-call (λ l o. said o ≡ result 2001 → numAt 3 (l .request) 5 ≡ 321 → PurgesUe (l .request) (was l) (is l o) (list o) (answer o))
+    (λ l a e. paper-pur.pur-purges l a (eq-eqb (numAt 3 (l .request) 5) 321 e))
 
 pub nor-notifies : NorNotifies
-nor-notifies = of-call (λ l o. said o ≡ result 2001 → isNor (l .request) ≡ true → Notifies (l .request) (was l) (is l o) (list o)) paper-nor.nor-notifies
+nor-notifies =
+    of-call (λ l o. said o ≡ result 2001 → numAt 3 (l .request) 5 ≡ 323 → Notifies (l .request) (was l) (is l o) (list o))
+    (λ l a e. paper-nor.nor-notifies l a (eq-eqb (numAt 3 (l .request) 5) 323 e))
 
 -- ---- 5. Refusals
 

@@ -7,7 +7,7 @@ use mathlib.Core.Option.{none, some}
 use mathlib.Core.List.{List, [], _∷_, _++_}
 use Prim.Native.Nat.{ℕ, _-_, _/_, _%_, _^_, _≤_, _<_}
 use lib.ListN.{take, drop, replicate}
-use Rattle.wire.specs.Number.{Bytes}
+use Rattle.wire.specs.Number.{numAt, Bytes}
 use Rattle.wire.specs.Put.{part}
 use Rattle.dictionary.specs.declared.Kind.the-variants.{Unknown}
 use Rattle.dictionary.specs.Rows.{kindOf}
@@ -18,10 +18,10 @@ use Rattle.paper.specs.Avp.{Avp, codeOf, vendorOf, flagsOf, avpOf, hasM}
 use Rattle.paper.specs.Clerks.{recordWith, standingOf, FirstThatHolds, Alters}
 use Rattle.paper.specs.Correction.{frameImsi, frameSeen}
 use Rattle.paper.specs.ItsRecord.{ItsRecord, RequestRecord}
-use Rattle.paper.specs.Layout.{messageHeader, mostEntries}
+use Rattle.paper.specs.Layout.{messageHeader}
 use Rattle.paper.specs.Newer.{WidenedRequest, asking, Accepting, unsupportedOutcome, withAvps, Fits, strippedRequest}
-use Rattle.paper.specs.Procedures.{Entry, imsiField, isUlr, isPur, isNor, onS6a}
-use Rattle.paper.specs.Promises.{UpdatesOnS6a, UpdatesOnS6d, AnswersUlr, PurgesUe, Notifies}
+use Rattle.paper.specs.Procedures.{Entry, imsiField}
+use Rattle.paper.specs.Promises.{ulrBit, UpdatesOnS6a, UpdatesOnS6d, AnswersUlr, PurgesUe, Notifies}
 use Rattle.paper.specs.Read.{entriesIn, codesIn}
 use Rattle.paper.specs.ReadBack.{ReadBack}
 use Rattle.paper.specs.Refusals as Refusals
@@ -93,7 +93,7 @@ abbrev pub after : Call → List ℕ
 after c = recordWith (imsiField (c .lent .request)) (c .left .table)
 
 abbrev pub entries : Call → List Entry
-entries c = entriesIn mostEntries 0 (c .left .cancel)
+entries c = entriesIn 2 0 (c .left .cancel)
 
 abbrev pub answerOf : Call → List ℕ
 answerOf c = take (c .left .size) (c .left .answer)
@@ -102,20 +102,21 @@ answerOf c = take (c .left .size) (c .left .answer)
 abbrev pub RequestRecordIs : Type 0
 RequestRecordIs = (c : Call) → valid (c .lent .table) ≡ true → RequestRecord (c .lent .request) (c .lent .table) (c .left .table) (before c) (after c)
 
+-- bytes 5–7 of the header are the command: 316 ULR, 321 PUR, 323 NOR
 abbrev pub UlrOnS6a : Type 0
-UlrOnS6a = (c : Call) → Success c → isUlr (c .lent .request) ≡ true → onS6a (c .lent .request) ≡ true → UpdatesOnS6a (c .lent .request) (before c) (after c) (entries c)
+UlrOnS6a = (c : Call) → Success c → numAt 3 (c .lent .request) 5 ≡ 316 → ulrBit 1 (c .lent .request) ≡ true → UpdatesOnS6a (c .lent .request) (before c) (after c) (entries c)
 
 abbrev pub UlrOnS6d : Type 0
-UlrOnS6d = (c : Call) → Success c → isUlr (c .lent .request) ≡ true → onS6a (c .lent .request) ≡ false → UpdatesOnS6d (c .lent .request) (before c) (after c) (entries c)
+UlrOnS6d = (c : Call) → Success c → numAt 3 (c .lent .request) 5 ≡ 316 → ulrBit 1 (c .lent .request) ≡ false → UpdatesOnS6d (c .lent .request) (before c) (after c) (entries c)
 
 abbrev pub UlrAnswered : Type 0
-UlrAnswered = (c : Call) → Success c → isUlr (c .lent .request) ≡ true → AnswersUlr (c .lent .request) (answerOf c)
+UlrAnswered = (c : Call) → Success c → numAt 3 (c .lent .request) 5 ≡ 316 → AnswersUlr (c .lent .request) (answerOf c)
 
 abbrev pub PurPurges : Type 0
-PurPurges = (c : Call) → Success c → isPur (c .lent .request) ≡ true → PurgesUe (c .lent .request) (before c) (after c) (entries c) (answerOf c)
+PurPurges = (c : Call) → Success c → numAt 3 (c .lent .request) 5 ≡ 321 → PurgesUe (c .lent .request) (before c) (after c) (entries c) (answerOf c)
 
 abbrev pub NorNotifies : Type 0
-NorNotifies = (c : Call) → Success c → isNor (c .lent .request) ≡ true → Notifies (c .lent .request) (before c) (after c) (entries c)
+NorNotifies = (c : Call) → Success c → numAt 3 (c .lent .request) 5 ≡ 323 → Notifies (c .lent .request) (before c) (after c) (entries c)
 
 -- ---- 5. Refusals, each in its stated case only
 
