@@ -45,7 +45,9 @@ mod PromiseExamples
 pub mod PromiseFields
 pub mod PromiseNodes
 pub mod PromiseNor
+pub mod PromiseNumbers
 pub mod PromisePur
+pub mod PromiseRecord
 pub mod PromiseRefusals
 pub mod PromiseRun
 pub mod PromiseSeconds
@@ -68,6 +70,7 @@ pub mod RecordLaws
 mod RefusalExamples
 pub mod RefusalSizes
 pub mod ReplyShown
+pub mod SaidLaws
 pub mod ShownLaws
 pub mod ShownSizes
 pub mod StandsIn

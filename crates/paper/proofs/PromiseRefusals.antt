@@ -7,18 +7,22 @@ use mathlib.Core.Option.{Option, none, some}
 use mathlib.Core.List.{List, [], _∷_}
 use Prim.Native.Nat.{ℕ}
 use lib.ListN.{getD}
-use lib.Dec.{ltb}
+use lib.Dec.{ltb, eqb}
+use Rattle.wire.specs.Number.{numAt}
+use Rattle.wire.proofs.ListLaws.{and-true-left, and-true-right}
+use Rattle.paper.specs.Avp.{bit}
 use Rattle.paper.specs.Reader.{orElse}
-use Rattle.paper.specs.Layout.{plmnCountAt}
-use Rattle.paper.specs.Table.{lookup, recordOf, mme, sgsn}
-use Rattle.paper.specs.Profile.{ratType, visitedPlmnId}
-use Rattle.paper.specs.Request.{Refusal, valueOf, numberOf}
-use Rattle.paper.specs.Procedures.{sender, imsiField, isUlr, isNor, onS6a, hasEps, hasGprs, restrictionOf, unsubscribed, hasPlmn, plmnRefused, isSender, stranger, codeIf}
+use Rattle.paper.specs.Table.{lookup, recordOf, nameOf}
+use Rattle.paper.specs.Fields.{filled}
+use Rattle.paper.specs.Profile.{key}
+use Rattle.paper.specs.Request.{Refusal, valueOf, numberOf, isName}
+use Rattle.paper.specs.Procedures.{sameName, imsiField, unsubscribed, plmnRefused, stranger, codeIf}
 use Rattle.paper.specs.Procedures as Procedures
 use Rattle.paper.specs.Clerks.{isNone, recordAtPlace, recordWith}
 use Rattle.paper.specs.Outcome.{Lent, Outcome, silent, answered, refusalReply, experimentalReply, successReply, byVerdict, byRecord, byRefusal, outcome}
-use Rattle.paper.specs.Refusals.{Said, number, result, experimental, saidBy, said, ratPasses, Case, refusals, First, none-holds, first, later}
+use Rattle.paper.specs.Refusals.{Said, number, result, experimental, saidBy, said, imsiStored, nameSaid, ratPasses, listsPlmn, isNamed, Case, refusals, First, none-holds, first, later}
 use Rattle.paper.proofs.PromiseTests.{refusedBy, request-said, rat-refused}
+use Rattle.paper.proofs.SaidLaws.{no-imsi-said, plmn-listed}
 
 -- ---- over any list of cases
 
@@ -59,14 +63,14 @@ judged-if false code d = refl
 
 abbrev ofRecord : List ℕ → List ℕ → Said
 ofRecord m r =
-    cond (isUlr m && cond (onS6a m) (not (hasEps r)) (not (hasEps r) && not (hasGprs r))) (experimental 5420)
-    (cond (isUlr m && not (ratPasses (numberOf ratType m) (restrictionOf r))) (experimental 5421)
-    (cond (isUlr m && (ltb 0 (getD r plmnCountAt 0) && not (hasPlmn (valueOf visitedPlmnId m) r (getD r plmnCountAt 0)))) (experimental 5004)
-    (cond (isNor m && (not (isSender mme (sender m) r) && not (isSender sgsn (sender m) r))) (experimental 5423) (result 2001))))
+    cond (eqb (numAt 3 m 5) 316 && cond (bit 1 (numberOf (key 10415 1405) m)) (not (bit 0 (getD r 20 0))) (not (bit 0 (getD r 20 0)) && not (bit 1 (getD r 20 0)))) (experimental 5420)
+    (cond (eqb (numAt 3 m 5) 316 && not (ratPasses (numberOf (key 10415 1032) m) (numAt 4 r 24))) (experimental 5421)
+    (cond (eqb (numAt 3 m 5) 316 && (ltb 0 (getD r 28 0) && not (listsPlmn r (valueOf (key 10415 1407) m)))) (experimental 5004)
+    (cond (eqb (numAt 3 m 5) 323 && (not (isNamed 64 (valueOf (key 0 264) m) r) && not (isNamed 129 (valueOf (key 0 264) m) r))) (experimental 5423) (result 2001))))
 
 record-judged : (m r : List ℕ) → judgedBy (Procedures.experimental m r) (result 2001) ≡ ofRecord m r
-unfolding Procedures.experimental unsubscribed plmnRefused stranger
-record-judged m r = simp (judged-or-else, judged-if, rat-refused)
+unfolding Procedures.experimental unsubscribed plmnRefused stranger sameName nameOf
+record-judged m r = simp (judged-or-else, judged-if, rat-refused, plmn-listed)
 
 -- ---- the outcome
 
@@ -91,10 +95,25 @@ refusal-said l none = refl
 refusal-said l (some x) = refl
 
 outcome-said : (l : Lent) → said (outcome l) ≡ firstSaid l refusals
-unfolding outcome firstSaid refusals recordWith
-outcome-said l = simp (silent-said, refusal-said, request-said, record-said)
+unfolding outcome firstSaid refusals recordWith isName nameSaid imsiField filled imsiStored
+outcome-said l = simp (silent-said, refusal-said, request-said, record-said, no-imsi-said)
 
 -- "Refusals without an answer", "Refusals with an answer" and the Experimental results, each in its stated case only
 pub first-that-applies : (l : Lent) (x : Said) → (said (outcome l) ≡ x) ↔ First l refusals x
 first-that-applies l x =
     ((λ e. subst (First l refusals) (sym (outcome-said l) ∙ e) (said-first l refusals)), (λ f. outcome-said l ∙ first-said f))
+
+-- ---- what holds of all that can be said
+
+unfoldable pub allSay : (Said → Bool) → List Case → Bool
+allSay P [] = P (result 2001)
+allSay P (c ∷ cs) = P (c .says) && allSay P cs
+
+first-says : (P : Said → Bool) {l : Lent} {cs : List Case} {x : Said} → First l cs x → allSay P cs ≡ true → P x ≡ true
+unfolding allSay
+first-says P none-holds e = e
+first-says P (first {c} {cs} h) e = and-true-left (P (c .says)) (allSay P cs) e
+first-says P (later {c} {cs} h r) e = first-says P r (and-true-right (P (c .says)) (allSay P cs) e)
+
+pub outcome-says : (P : Said → Bool) → allSay P refusals ≡ true → (l : Lent) → P (said (outcome l)) ≡ true
+outcome-says P e l = first-says P (first-that-applies l (said (outcome l)) .0 refl) e

@@ -6,19 +6,22 @@ use mathlib.Core.Option.{Option, none, some}
 use mathlib.Core.List.{List, [], _∷_, map}
 use Prim.Native.Nat.{ℕ, zero, suc, _+_, _-_, _/_, _%_, _^_, _<_}
 use native.Mathlib.Omega.{arith}
-use lib.ListN.{length}
+use lib.ListN.{length, getD}
 use lib.Dec.{leb, ltb, eqb}
 use borrow.Author.Tests.{eqb-true, ne-eqb, leb-true, ltb-true}
+use Rattle.wire.specs.Number.{numAt}
 use Rattle.wire.proofs.ListLaws.{and-true-left, and-true-right}
 use Rattle.dictionary.specs.declared.Kind.{Kind}
 use Rattle.dictionary.specs.declared.Kind.the-variants.{Four, Eight, Any, Group, Closed, Unknown}
 use Rattle.dictionary.specs.Kinds.{sizeRight}
+use Rattle.paper.specs.Avp.{bit}
 use Rattle.paper.specs.Reader.{Placed, Avps, whole, broken, more, avps, bodyAt, bare, Faulty, View, orElse, _then_, nothing, faulty, unknown, single, sized, group, each, byKind, viewAvp, view, mostGroups}
-use Rattle.paper.specs.Profile.{Key, Command, userName, originHost, visitedPlmnId, imei, commands, commandIn, commandOf}
-use Rattle.paper.specs.Request.{Refusal, versionOf, messageLength, isError, commandCode, applicationOf, avpsOf, viewOf, isThere, find, used, requiredIn, terminal, imeiOf, keyNumber, ifUsed, versionTest, lengthTest, errorTest, ofFault, faultTest, applicationTest, isCommand, commandTest, ofFound, unsupportedTest, repeatedTest, firstAbsent, missing, absentTest, valueTest, imsiDigits, isName, threeBytes, imeiDigits, valuesTest, refusal}
+use Rattle.paper.specs.Profile.{Key, key, Command, commands, commandIn, commandOf}
+use Rattle.paper.specs.Request.{Refusal, avpsOf, viewOf, isThere, find, keyNumber, versionTest, lengthTest, errorTest, ofFault, faultTest, applicationTest, isCommand, commandTest, ofFound, unsupportedTest, repeated, repeatedTest, firstAbsent, missing, absentTest, valueTest, imsiDigits, isName, threeBytes, imeiDigits, valuesTest, refusal}
 use Rattle.paper.specs.Procedures.{ratBits, ratRefused}
-use Rattle.paper.specs.Refusals.{Said, number, result, experimental, faultOf, twice, lacks, wrong, ratPasses}
+use Rattle.paper.specs.Refusals.{Said, number, result, experimental, requiredSaid, usedSaid, userNameOf, originHostOf, visitedPlmnIdOf, inTerminal, imeiSent, faultOf, twice, lacks, wrong, nameSaid, imsiSaid, imeiSaid, ratPasses}
 use Rattle.paper.proofs.PromiseSeconds.{eqb-sym, repeated-twice}
+use Rattle.paper.proofs.SaidLaws.{used-as-said, required-as-said, user-name-said, origin-host-said, visited-plmn-id-said, terminal-said}
 
 -- ---- one test
 
@@ -175,32 +178,48 @@ fault-said : (m : List ℕ) (d : Said) → refusedBy (faultTest m) d ≡ cond (f
 unfolding faultTest
 fault-said m d = refused-fault (viewOf m .fault) d (message-right m)
 
--- the Result-Codes: the cases of the list from 5011 to the last 5004
-abbrev pub ofRequest : List ℕ → Said → Said
-ofRequest m d =
-    cond (not (eqb (versionOf m) 1)) (result 5011)
-    (cond (not (eqb (messageLength m) (length m) && eqb (length m % 4) 0)) (result 5015)
-    (cond (isError m) (result 3008)
-    (cond (faultOf 5014 (viewOf m .fault)) (result 5014)
-    (cond (faultOf 5004 (viewOf m .fault)) (result 5004)
-    (cond (not (eqb (applicationOf m) 16777251)) (result 3007)
-    (cond (not (eqb (commandCode m) 316 || (eqb (commandCode m) 321 || eqb (commandCode m) 323))) (result 3001)
-    (cond (isThere (viewOf m .unsupported)) (result 5001)
-    (cond (twice (map keyNumber (used m)) (avpsOf m) || twice (keyNumber imei ∷ []) (terminal m)) (result 5009)
-    (cond (lacks (requiredIn (commandOf (commandCode m))) (avpsOf m)) (result 5005)
-    (cond (wrong imsiDigits (ifUsed userName m)) (result 5004)
-    (cond (wrong isName (ifUsed originHost m)) (result 5004)
-    (cond (wrong threeBytes (ifUsed visitedPlmnId m)) (result 5004)
-    (cond (wrong imeiDigits (imeiOf m)) (result 5004) d)))))))))))))
-
 none-said : (d : Said) → refusedBy none d ≡ d
 unfolding refusedBy
 none-said d = refl
 
+absent-said : (m : List ℕ) (d : Said) → refusedBy (absentTest m) d ≡ cond (lacks (requiredSaid (numAt 3 m 5)) (avpsOf m)) (result 5005) d
+unfolding absentTest
+absent-said m d = rw (required-as-said (numAt 3 m 5)) (refused-absent (requiredSaid (numAt 3 m 5)) (avpsOf m) d)
+
+repeated-said : (m : List ℕ) → isThere (repeated m) ≡ twice (map keyNumber (usedSaid (numAt 3 m 5))) (avpsOf m) || twice (keyNumber (key 10415 1402) ∷ []) (inTerminal m)
+repeated-said m = repeated-twice m ∙ rw (used-as-said (numAt 3 m 5), terminal-said m)
+
+values-said : (m : List ℕ) (d : Said) → refusedBy (valuesTest m) d
+    ≡ cond (wrong imsiSaid (userNameOf m)) (result 5004)
+    (cond (wrong nameSaid (originHostOf m)) (result 5004)
+    (cond (wrong (λ x. eqb (length x) 3) (visitedPlmnIdOf m)) (result 5004)
+    (cond (wrong imeiSaid (imeiSent m)) (result 5004) d)))
+unfolding valuesTest imsiDigits isName threeBytes imeiDigits imsiSaid nameSaid imeiSaid
+values-said m d =
+    rw (user-name-said m, origin-host-said m, visited-plmn-id-said m, terminal-said m) (simp (refused-or-else, refused-wrong, none-said))
+
+-- the Result-Codes: the cases of the list from 5011 to the last 5004
+abbrev pub ofRequest : List ℕ → Said → Said
+ofRequest m d =
+    cond (not (eqb (getD m 0 0) 1)) (result 5011)
+    (cond (not (eqb (numAt 3 m 1) (length m) && eqb (length m % 4) 0)) (result 5015)
+    (cond (bit 5 (getD m 4 0)) (result 3008)
+    (cond (faultOf 5014 (viewOf m .fault)) (result 5014)
+    (cond (faultOf 5004 (viewOf m .fault)) (result 5004)
+    (cond (not (eqb (numAt 4 m 8) 16777251)) (result 3007)
+    (cond (not (eqb (numAt 3 m 5) 316 || (eqb (numAt 3 m 5) 321 || eqb (numAt 3 m 5) 323))) (result 3001)
+    (cond (isThere (viewOf m .unsupported)) (result 5001)
+    (cond (twice (map keyNumber (usedSaid (numAt 3 m 5))) (avpsOf m) || twice (keyNumber (key 10415 1402) ∷ []) (inTerminal m)) (result 5009)
+    (cond (lacks (requiredSaid (numAt 3 m 5)) (avpsOf m)) (result 5005)
+    (cond (wrong imsiSaid (userNameOf m)) (result 5004)
+    (cond (wrong nameSaid (originHostOf m)) (result 5004)
+    (cond (wrong (λ x. eqb (length x) 3) (visitedPlmnIdOf m)) (result 5004)
+    (cond (wrong imeiSaid (imeiSent m)) (result 5004) d)))))))))))))
+
 pub request-said : (m : List ℕ) (d : Said) → refusedBy (refusal m) d ≡ ofRequest m d
-unfolding refusal versionTest lengthTest errorTest applicationTest commandTest unsupportedTest repeatedTest absentTest valuesTest
+unfolding refusal versionTest lengthTest errorTest applicationTest commandTest unsupportedTest repeatedTest
 request-said m d =
-    simp (refused-or-else, refused-unless, refused-if, refused-found, refused-wrong, refused-absent, fault-said, is-command, repeated-twice, none-said)
+    simp (refused-or-else, refused-unless, refused-if, refused-found, fault-said, is-command, repeated-said, absent-said, values-said, none-said)
 
 -- ---- no refusal says 2001
 

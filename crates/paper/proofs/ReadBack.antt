@@ -21,7 +21,7 @@ use Rattle.paper.specs.Answer.{Reply, replyAvps}
 use Rattle.paper.specs.Passed.{Passed}
 use Rattle.paper.specs.Outcome.{Lent, Outcome, silent, answered, refusalReply, experimentalReply, successReply, outcome}
 use Rattle.paper.specs.Read.{before, answerOf, entriesIn, listedBy}
-use Rattle.paper.specs.Refusals.{Said, result, experimental, saidBy, said}
+use Rattle.paper.specs.Refusals.{Said, result, experimental, saidBy, said, isAnswered}
 use Rattle.paper.specs.Promises.{Accepted}
 use Rattle.paper.specs.ReadBack.{Held, ReadAs, isFaulty, unechoed, failedBy, holds, HeaderRead, ReadBack, AnswersReadBack}
 use Rattle.paper.proofs.OptionLaws.{Holds}
@@ -34,6 +34,7 @@ use Rattle.paper.proofs.AnswerSizes as Sizes
 use Rattle.paper.proofs.AnswerSizes.{ReplyTo, answer-fours}
 use Rattle.paper.proofs.OutcomeLaws.{Comes, silence, refused, ruled, done, outcome-comes}
 use Rattle.paper.proofs.PromiseTests.{refusal-otherwise}
+use Rattle.paper.proofs.PromiseNumbers.{number-said}
 use Rattle.paper.proofs.PromiseEntries.{Readable, entries-back}
 use Rattle.paper.proofs.PromiseSuccess.{Success, success, inside, before-is}
 use Rattle.paper.proofs.ReadBackAvps.{seen, Reads, read-held}
@@ -193,8 +194,7 @@ by-comes l b o (done p n i f) q a = answer-reads l _ _ _ (success-answers l (rec
 
 -- a call that comes to the number 0 has an answer
 has-answer : (l : Lent) → outcome l .number ≡ 0 → outcome l .verdict ≡ none → ⊥
-unfolding proper said saidBy
-has-answer l n e = let w = told-proper l in false≢true (rw (e, n) at w)
+has-answer l n e = false≢true (sym (ap isAnswered e) ∙ number-said l .answered .0 n)
 
 pub answers-read-back : AnswersReadBack
 answers-read-back l b n = by-comes l b (outcome l) (outcome-comes l) refl (has-answer l n)

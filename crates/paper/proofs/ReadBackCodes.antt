@@ -1,7 +1,7 @@
 -- Result-Code and Experimental-Result-Code, read from an answer's bytes, are what the request was told.
 -- Assumes nothing.
 use mathlib.Core.Path.{_≡_, refl, _∙_}
-use mathlib.Core.Bool.{Bool, true, false, _&&_}
+use mathlib.Core.Bool.{Bool, true, false}
 use mathlib.Core.Option.{Option}
 use mathlib.Core.List.{List, [], _∷_}
 use Prim.Native.Nat.{ℕ, _^_, _<_}
@@ -9,40 +9,29 @@ use native.Mathlib.Omega.{arith}
 use lib.Dec.{ltb}
 use borrow.Author.Tests.{ltb-true}
 use Rattle.wire.specs.Number.{numAt}
-use Rattle.wire.proofs.ListLaws.{and-true-left, and-true-right}
 use Rattle.paper.specs.Reader.{Placed}
 use Rattle.paper.specs.Find.{bodyFound}
 use Rattle.paper.specs.Profile.{base, resultCode, experimentalResult, experimentalResultCode}
 use Rattle.paper.specs.Request.{avpsOf, valueOf, numberOf, find, inside}
 use Rattle.paper.specs.Outcome.{Lent, outcome}
 use Rattle.paper.specs.Read.{codesIn}
-use Rattle.paper.specs.Refusals.{Said, number, result, experimental, said, Case, refusals, First, none-holds, first, later}
+use Rattle.paper.specs.Refusals.{Said, number, result, experimental, said, refusals}
 use Rattle.paper.specs.ReadBack.{ReadAs, _and-then_, tells, resultPart, holds, codesTold}
 use Rattle.paper.proofs.ViewLaws.{orElse-right}
-use Rattle.paper.proofs.PromiseRefusals.{first-that-applies}
+use Rattle.paper.proofs.PromiseRefusals.{allSay, outcome-says}
 use Rattle.paper.proofs.ReadBackFind.{foundIn, Agrees, read-find, number-read, none-read, none-inside, inside-read, surrounds, held-found, lacks-success}
 
 -- ---- the codes
 
--- the number of a refusal without an answer is not 0, and a code has 4 bytes
+-- a code has 4 bytes
 unfoldable pub proper : Said → Bool
-proper (number n) = ltb 0 n
+proper (number n) = true
 proper (result code) = ltb code 65536
 proper (experimental code) = ltb code 65536
 
-allProper : List Case → Bool
-allProper [] = true
-allProper (c ∷ cs) = proper (c .says) && allProper cs
-
-first-proper : {l : Lent} {cs : List Case} {x : Said} → First l cs x → allProper cs ≡ true → proper x ≡ true
-unfolding allProper proper
-first-proper none-holds e = refl
-first-proper (first {c} {cs} h) e = and-true-left (proper (c .says)) (allProper cs) e
-first-proper (later {c} {cs} h r) e = first-proper r (and-true-right (proper (c .says)) (allProper cs) e)
-
 pub told-proper : (l : Lent) → proper (said (outcome l)) ≡ true
-unfolding allProper proper refusals
-told-proper l = first-proper (first-that-applies l (said (outcome l)) .0 refl) refl
+unfolding allSay proper refusals
+told-proper = outcome-says proper refl
 
 four-bytes : (code : ℕ) → ltb code 65536 ≡ true → code < 256 ^ 4
 four-bytes code e = let h = ltb-true code 65536 e in omega arith

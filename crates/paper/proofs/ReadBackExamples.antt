@@ -10,14 +10,14 @@ use Rattle.paper.specs.Profile.{base, tgpp, ulr, pur, userName, proxyInf
 use Rattle.paper.specs.Answer.{item, numberItem}
 use Rattle.paper.specs.Outcome.{Lent, outcome}
 use Rattle.paper.specs.Read.{before}
-use Rattle.paper.specs.Refusals.{wrong, saidBy, said}
+use Rattle.paper.specs.Refusals.{requiredBy, avpsBy, nameSaid, imsiSaid, imeiSaid, wrong, saidBy, said}
 use Rattle.paper.specs.Worked.{imsi, a, b, subscriber, purged, restricted, withMme, withSgsn, requestOf, requiredFrom, ulrFrom, ulrWith, purFrom, purWith, norWith, ask}
 use Rattle.paper.specs.ReadBack.{Held, no-more, plain, showing, grouped, _and-then_, resultPart, firstPart, eachPart, isFaulty, unechoed, subscriptionPart, successPart, headOf, firstLacking, firstWrong, failedBy, failedPart, holds, octet}
 use Rattle.paper.proofs.Everything.{everything}
 
 -- what the answer to a request holds
 unfoldable heldBy : Lent → Held
-unfolding everything wrong saidBy said _and-then_ resultPart firstPart eachPart isFaulty unechoed subscriptionPart successPart headOf firstLacking firstWrong failedBy failedPart holds octet
+unfolding everything requiredBy avpsBy nameSaid imsiSaid imeiSaid wrong saidBy said _and-then_ resultPart firstPart eachPart isFaulty unechoed subscriptionPart successPart headOf firstLacking firstWrong failedBy failedPart holds octet
 heldBy l = holds (l .request) (l .host) (l .realm) (before l) (said (outcome l))
 
 -- an AVP as received: code, flag octet, vendor, data

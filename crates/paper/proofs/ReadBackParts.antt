@@ -17,9 +17,9 @@ use Rattle.paper.specs.Avp.{Avp, Writable, asReceived}
 use Rattle.paper.specs.Reader.{Placed, Avps, whole, broken, more, mostGroups}
 use Rattle.paper.specs.Find.{hasKey}
 use Rattle.paper.specs.Profile.{Key, sessionId, originHost, vendorId, resultCode, authSessionState, failedAvp, proxyInfo, originRealm, experimentalResult, experimentalResultCode, bandwidthDownlink, bandwidthUplink, subscriptionData, ulaFlags, subscriberStatus, accessRestrictionData, ambr, puaFlags}
-use Rattle.paper.specs.Table.{mme, sgsn, recordOf}
+use Rattle.paper.specs.Table.{nameOf, recordOf}
 use Rattle.paper.specs.Request.{avpsOf, find}
-use Rattle.paper.specs.Procedures.{isUlr, isPur, skipSubscriberData, purges, purgeUe, carriedOut}
+use Rattle.paper.specs.Procedures.{sameName, isUlr, isPur, skipSubscriberData, purges, purgeUe, carriedOut}
 use Rattle.paper.specs.Answer as Answer
 use Rattle.paper.specs.Answer.{item, numberItem, Verdict, resultItem, echoed, eachOf, failedItem, restrictionItem, subscriptionOf, subscriptionItem, Reply, replyAvps}
 use Rattle.paper.specs.Outcome.{successItems}
@@ -127,8 +127,8 @@ subscription-made r =
 
 -- the purge bits that a PUR sets
 pub purges-are : (m : List ℕ) (i : ℕ) (t : List ℕ) → isUlr m ≡ false → isPur m ≡ true
-    → carriedOut m i t .purges ≡ cond (setsBit mme m (recordOf t i)) 1 0 + cond (setsBit sgsn m (recordOf t i)) 2 0
-unfolding carriedOut purgeUe purges
+    → carriedOut m i t .purges ≡ cond (setsBit 64 0 m (recordOf t i)) 1 0 + cond (setsBit 129 1 m (recordOf t i)) 2 0
+unfolding carriedOut purgeUe purges sameName nameOf
 purges-are m i t u p = rw (u, p)
 
 pub success-made : (m : List ℕ) (i : ℕ) (t : List ℕ) → Made mostGroups (successPart m (recordOf t i)) (successItems m (recordOf t i) (carriedOut m i t))
@@ -139,7 +139,7 @@ success-made m i t = go (isUlr m) refl (isPur m) refl
     r = recordOf t i
 
     flags : ℕ
-    flags = cond (setsBit mme m r) 1 0 + cond (setsBit sgsn m r) 2 0
+    flags = cond (setsBit 64 0 m r) 1 0 + cond (setsBit 129 1 m r) 2 0
 
     go : (u : Bool) → isUlr m ≡ u → (p : Bool) → isPur m ≡ p
         → Made mostGroups (cond u (a-number ulaFlags 1 and-then cond (skipSubscriberData m) no-more (subscriptionPart r)) (cond p (a-number puaFlags flags) no-more))

@@ -9,7 +9,7 @@ use native.Mathlib.Omega.{arith}
 use lib.Dec.{ltb, eqb}
 use lib.ListN.{length}
 use borrow.Author.Tests.{eqb-true, ltb-true}
-use Rattle.wire.specs.Number.{Bytes}
+use Rattle.wire.specs.Number.{numAt, Bytes}
 use Rattle.wire.proofs.ListLaws.{and-true-left, and-true-right}
 use Rattle.wire.proofs.NumberLaws.{numAt-lt, bytes-part}
 use Rattle.dictionary.specs.declared.Kind.{Kind}
@@ -18,15 +18,17 @@ use Rattle.dictionary.specs.Rows.{kindOf}
 use Rattle.paper.specs.Avp.{Avp, Writable, flagsOf, bareOf, flagsFor}
 use Rattle.paper.specs.Reader.{Placed, Avps, Faulty}
 use Rattle.paper.specs.Widened.{shownOf}
-use Rattle.paper.specs.Profile.{Key, ulr, pur, nor, commands, commandIn, commandOf, userName, originHost, visitedPlmnId}
-use Rattle.paper.specs.Request.{commandCode, avpsOf, viewOf, find, isThere, requiredIn, imeiOf, ifUsed, repeated, imsiDigits, isName, threeBytes, imeiDigits}
-use Rattle.paper.specs.Refusals.{Said, wrong}
+use Rattle.paper.specs.Find.{member}
+use Rattle.paper.specs.Profile.{Key, userName, originHost, visitedPlmnId}
+use Rattle.paper.specs.Request.{avpsOf, viewOf, find, isThere, repeated}
+use Rattle.paper.specs.Refusals.{Said, requiredBy, avpsBy, requiredSaid, userNameOf, originHostOf, visitedPlmnIdOf, imeiSent, wrong, nameSaid, imsiSaid, imeiSaid}
 use Rattle.paper.specs.Shown.{stretch}
 use Rattle.paper.specs.ShownIn.{Standing}
 use Rattle.paper.specs.ReadBack.{octet, ofKey, tells, headOf, emptyOf, firstLacking, firstWrong, failedBy, isShown, FailedRead}
 use Rattle.paper.proofs.AvpLaws.{headSize-most}
 use Rattle.paper.proofs.AvpsLaws.{cond-cases}
 use Rattle.paper.proofs.OptionLaws.{Holds, holds-orElse}
+use Rattle.paper.proofs.SaidLaws.{by-code, user-name-said, origin-host-said, visited-plmn-id-said, terminal-said}
 use Rattle.paper.proofs.ShownLaws.{none-standing, used-standing, imei-standing, repeated-standing, view-shows}
 use Rattle.paper.proofs.WrittenLaws.{vendor-fits, vendor-without-V, read-writable, for-key-writable}
 use Rattle.paper.proofs.ReadBackAvps.{Own}
@@ -41,10 +43,10 @@ module _ (m : List ℕ) (least : 20 ≤ length m) where
   wrong-standing : Standing m (firstWrong m)
   unfolding firstWrong
   wrong-standing =
-      cond-cases (Standing m) (wrong imsiDigits (ifUsed userName m)) (λ e. used-standing m least userName)
-      (λ e. cond-cases (Standing m) (wrong isName (ifUsed originHost m)) (λ f. used-standing m least originHost)
-      (λ f. cond-cases (Standing m) (wrong threeBytes (ifUsed visitedPlmnId m)) (λ g. used-standing m least visitedPlmnId)
-      (λ g. cond-cases (Standing m) (wrong imeiDigits (imeiOf m)) (λ h. imei-standing m least) (λ h. none-standing m))))
+      cond-cases (Standing m) (wrong imsiSaid (userNameOf m)) (λ e. subst (Standing m) (user-name-said m) (used-standing m least userName))
+      (λ e. cond-cases (Standing m) (wrong nameSaid (originHostOf m)) (λ f. subst (Standing m) (origin-host-said m) (used-standing m least originHost))
+      (λ f. cond-cases (Standing m) (wrong (λ x. eqb (length x) 3) (visitedPlmnIdOf m)) (λ g. subst (Standing m) (visited-plmn-id-said m) (used-standing m least visitedPlmnId))
+      (λ g. cond-cases (Standing m) (wrong imeiSaid (imeiSent m)) (λ h. rw (terminal-said m) at (imei-standing m least)) (λ h. none-standing m))))
 
   -- a fault shows the head of what stands at its place
   fault-head : (f : Faulty) → viewOf m .fault ≡ some f → headOf (viewOf m .fault) ≡ some (bareOf (stretch m (f .shown .at) (f .shown .end)))
@@ -104,12 +106,9 @@ unfoldable pub ownKeys : List Key → Bool
 ownKeys [] = true
 ownKeys (k ∷ ks) = ownKey k && ownKeys ks
 
-pub required-own : (code : ℕ) → ownKeys (requiredIn (commandOf code)) ≡ true
-unfolding commandOf commandIn commands requiredIn ownKeys ownKey
-required-own code =
-    cond-cases (λ o. ownKeys (requiredIn o) ≡ true) (eqb ulr code) (λ e. refl)
-    (λ e. cond-cases (λ o. ownKeys (requiredIn o) ≡ true) (eqb pur code) (λ f. refl)
-    (λ f. cond-cases (λ o. ownKeys (requiredIn o) ≡ true) (eqb nor code) (λ g. refl) (λ g. refl)))
+pub required-own : (code : ℕ) → ownKeys (requiredSaid code) ≡ true
+unfolding requiredBy avpsBy member ownKeys ownKey
+required-own code = by-code (λ c. ownKeys (requiredSaid c) ≡ true) refl refl refl code (λ p q r. rw (p, q, r))
 
 absent-writable : (k : Key) → Own k → Writable (ofKey k (emptyOf (kindOf (k .vendor) (k .code))))
 absent-writable k o =
@@ -141,6 +140,6 @@ failed-writable m least b s =
     let head = fault-writable m least b in
     cond-cases (Holds Writable) (tells 5001 s) (λ p. standing-writable m b (viewOf m .unsupported) (view-shows m least .unsupported))
     (λ p. cond-cases (Holds Writable) (tells 5004 s) (λ q. holds-orElse Writable (headOf (viewOf m .fault)) (shownOf (firstWrong m)) head (standing-writable m b (firstWrong m) (wrong-standing m least)))
-    (λ q. cond-cases (Holds Writable) (tells 5005 s) (λ t. lacking-writable (requiredIn (commandOf (commandCode m))) (avpsOf m) (required-own (commandCode m)))
+    (λ q. cond-cases (Holds Writable) (tells 5005 s) (λ t. lacking-writable (requiredSaid (numAt 3 m 5)) (avpsOf m) (required-own (numAt 3 m 5)))
     (λ t. cond-cases (Holds Writable) (tells 5009 s) (λ u. standing-writable m b (repeated m) (repeated-standing m least))
     (λ u. cond-cases (Holds Writable) (tells 5014 s) (λ v. head) (λ v. tt)))))

@@ -9,6 +9,7 @@ use native.Mathlib.Omega.{arith}
 use lib.Dec.{eqb}
 use lib.ListN.{length, drop}
 use borrow.Author.Tests.{eqb-true}
+use Rattle.wire.specs.Number.{numAt}
 use Rattle.wire.proofs.ListLaws.{and-true-left, and-true-right}
 use Rattle.dictionary.specs.declared.Kind.{Kind}
 use Rattle.dictionary.specs.declared.Kind.the-variants.{Four, Eight, Any, Group, Closed, Unknown}
@@ -16,12 +17,13 @@ use Rattle.dictionary.specs.Rows.{kindOf}
 use Rattle.paper.specs.Avp.{Avp}
 use Rattle.paper.specs.Reader.{Placed, Avps, Faulty, orElse, mostGroups}
 use Rattle.paper.specs.Widened.{shownOf}
-use Rattle.paper.specs.Profile.{Key, application, commandOf, userName, originHost, visitedPlmnId}
-use Rattle.paper.specs.Request.{Refusal, versionOf, messageLength, isError, applicationOf, commandCode, isCommand, avpsOf, viewOf, find, isThere, requiredIn, imeiOf, ifUsed, repeated, versionTest, lengthTest, errorTest, ofFault, faultTest, applicationTest, commandTest, ofFound, unsupportedTest, repeatedTest, blank, missing, firstAbsent, absentTest, valueTest, imsiDigits, isName, threeBytes, imeiDigits, valuesTest, refusal}
-use Rattle.paper.specs.Refusals.{result, wrong}
+use Rattle.paper.specs.Profile.{Key, application, commandOf}
+use Rattle.paper.specs.Request.{Refusal, versionOf, messageLength, isError, applicationOf, commandCode, isCommand, avpsOf, viewOf, find, isThere, repeated, versionTest, lengthTest, errorTest, ofFault, faultTest, applicationTest, commandTest, ofFound, unsupportedTest, repeatedTest, blank, missing, firstAbsent, absentTest, valueTest, imsiDigits, isName, threeBytes, imeiDigits, valuesTest, refusal}
+use Rattle.paper.specs.Refusals.{result, requiredSaid, userNameOf, originHostOf, visitedPlmnIdOf, imeiSent, wrong, nameSaid, imsiSaid, imeiSaid}
 use Rattle.paper.specs.ReadBack.{ofKey, tells, isFaulty, unechoed, headOf, emptyOf, firstLacking, firstWrong, failedBy, isShown}
 use Rattle.paper.proofs.OptionLaws.{holds-of}
 use Rattle.paper.proofs.TestLaws.{or-right}
+use Rattle.paper.proofs.SaidLaws.{required-as-said, user-name-said, origin-host-said, visited-plmn-id-said, terminal-said}
 use Rattle.paper.proofs.ShownSizes.{view-bare}
 use Rattle.paper.proofs.PromiseTests.{faultRight, message-right}
 use Rattle.paper.proofs.ReadBackAvps.{Own}
@@ -174,9 +176,10 @@ module _ (m : List ℕ) where
       go false = refl
 
   values-are : valuesTest m ≡ ofFound 5004 (firstWrong m)
-  unfolding valuesTest firstWrong ofFound
+  unfolding valuesTest imsiDigits isName threeBytes imeiDigits firstWrong imsiSaid nameSaid imeiSaid ofFound
   values-are =
-      rw (value-step imeiDigits (imeiOf m) none, value-step threeBytes (ifUsed visitedPlmnId m), value-step isName (ifUsed originHost m), value-step imsiDigits (ifUsed userName m))
+      rw (user-name-said m, origin-host-said m, visited-plmn-id-said m, terminal-said m)
+      (rw (value-step imeiDigits (imeiSent m) none, value-step threeBytes (visitedPlmnIdOf m), value-step isName (originHostOf m), value-step imsiDigits (userNameOf m)))
 
   module _ (clear : viewOf m .fault ≡ none) where
     echoes : not (isFaulty (viewOf m .fault)) ≡ true
@@ -202,7 +205,8 @@ module _ (m : List ℕ) where
     absent-told : {x : Refusal} → absentTest m ≡ some x → Told m x
     unfolding absentTest unechoed failedBy
     absent-told e =
-        let a = absent-is (requiredIn (commandOf (commandCode m))) (avpsOf m) (required-own (commandCode m)) _ e in
+        let c = numAt 3 m 5 in
+        let a = absent-is (requiredSaid c) (avpsOf m) (required-own c) _ (rw (required-as-said c) at e) in
         subst (Told m) (a .is) (record { echo = sym echoes; failed = refl; there = a .shown })
 
     values-told : {x : Refusal} → valuesTest m ≡ some x → Told m x

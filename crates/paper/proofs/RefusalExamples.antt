@@ -1,4 +1,4 @@
--- A closed example of each refusal, in its case: antt computes what is said of each from the bytes lent. And the profile's rows against 01's sentences.
+-- A closed example of each refusal, in its case: antt computes what is said of each from the bytes lent.
 -- Assumes nothing.
 use mathlib.Core.Path.{_≡_, refl}
 use mathlib.Core.List.{List, [], _∷_, _++_, map}
@@ -6,11 +6,10 @@ use Prim.Native.Nat.{ℕ, zero, suc}
 use lib.ListN.{take, replicate}
 use Rattle.wire.specs.Put.{put}
 use Rattle.paper.specs.Layout.{subscriptionAt}
-use Rattle.paper.specs.Profile.{ulr, terminalInformation, imei, userName, visitedPlmnId, ratType, ulrFlags, commands, commandIn, commandOf}
-use Rattle.paper.specs.Request.{has, usedIn, requiredIn}
+use Rattle.paper.specs.Profile.{ulr, terminalInformation, imei, userName, visitedPlmnId, ratType, ulrFlags}
 use Rattle.paper.specs.Answer.{item, numberItem}
 use Rattle.paper.specs.Outcome.{Lent, outcome}
-use Rattle.paper.specs.Refusals.{Said, number, result, experimental, saidBy, said, usedBy, usersIn, hasAll, useOnly, UsedAsSaid}
+use Rattle.paper.specs.Refusals.{Said, number, result, experimental, saidBy, said}
 use Rattle.paper.specs.Worked.{imsi, a, b, s, subscriber, withMme, withSgsn, tableOf, requestOf, requiredFrom, ulrFrom, ulrWith, norWith, ask}
 use Rattle.paper.proofs.Everything.{everything}
 
@@ -98,8 +97,3 @@ sayings = map (λ x. said (outcome (x .lent))) examples
 each-refusal : sayings ≡ map (λ x. x .says) examples
 unfolding sayings
 each-refusal = refl
-
--- the profile's rows against 01's sentences, AVP by AVP
-pub used-as-said : UsedAsSaid
-unfolding usedBy usersIn hasAll useOnly commands commandIn commandOf has usedIn requiredIn
-used-as-said = record { each = refl; no-other = refl; required-316 = refl; required-321 = refl; required-323 = refl }

@@ -11,6 +11,9 @@ pub record Key : Type 0 where
   pub vendor : ℕ
   pub code : ℕ
 
+abbrev pub key : ℕ → ℕ → Key
+key vendor code = record { vendor = vendor; code = code }
+
 abbrev pub base : ℕ → Key
 base code = record { vendor = 0; code = code }
 

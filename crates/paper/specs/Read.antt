@@ -8,12 +8,11 @@ use lib.ListN.{take, getD}
 use lib.Dec.{eqb}
 use Rattle.wire.specs.Number.{numAt}
 use Rattle.wire.specs.Put.{part}
-use Rattle.paper.specs.Avp.{sizeOf}
+use Rattle.paper.specs.Avp.{bit, sizeOf}
 use Rattle.paper.specs.Reader.{Placed}
 use Rattle.paper.specs.Find.{bodyFound}
-use Rattle.paper.specs.Layout.{purgedAt, imeiAt, entrySize, mostEntries}
-use Rattle.paper.specs.Profile.{Key, resultCode, experimentalResult, experimentalResultCode}
-use Rattle.paper.specs.Table.{Slot, nameOf, bitAt}
+use Rattle.paper.specs.Profile.{Key, key}
+use Rattle.paper.specs.Table.{Slot, nameOf}
 use Rattle.paper.specs.Request.{find, inside, avpsOf, numberOf}
 use Rattle.paper.specs.Procedures.{Entry, imsiField}
 use Rattle.paper.specs.Clerks.{recordWith}
@@ -27,13 +26,20 @@ before l = recordWith (imsiField (l .request)) (l .table)
 abbrev pub after : Lent → List ℕ
 after l = recordWith (imsiField (l .request)) (outcome l .table)
 
--- "bit 0 purged in MME, bit 1 purged in SGSN"
-abbrev pub purgedIn : Slot → List ℕ → Bool
-purgedIn slot r = bitAt purgedAt (slot .purgeBit) r
+-- "64, 65–128: MME name length 0–64, name"; "129, 130–193: SGSN [..]"; "bit 0 purged in MME, bit 1 purged in SGSN"; "1 MME or 2 SGSN"
+abbrev pub anMme : Slot
+anMme = record { number = 1; at = 64; purgeBit = 0 }
 
--- "IMEI digit count 0, 14 or 15, ASCII digits"
+abbrev pub anSgsn : Slot
+anSgsn = record { number = 2; at = 129; purgeBit = 1 }
+
+-- a purge bit, of byte 56
+abbrev pub purgedIn : Slot → List ℕ → Bool
+purgedIn slot r = bit (slot .purgeBit) (getD r 56 0)
+
+-- "204, 205–219: IMEI digit count 0, 14 or 15, ASCII digits"
 abbrev pub imeiIn : List ℕ → List ℕ
-imeiIn r = part (imeiAt + 1) (getD r imeiAt 0) r
+imeiIn r = part 205 (getD r 204 0) r
 
 -- ---- the cancel buffer: "two entries of 68 bytes, filled from the first: 1 MME or 2 SGSN, type, name length, zero, name zero-filled"
 
@@ -44,10 +50,10 @@ entryAt at c = record { node = getD c at 0; type = getD c (at + 1) 0; name = par
 -- the entries from the byte `at` on, `n` at most: "Unused entries are zero."
 unfoldable pub entriesIn : ℕ → ℕ → List ℕ → List Entry
 entriesIn zero at c = []
-entriesIn (suc n) at c = cond (eqb (getD c at 0) 0) [] (entryAt at c ∷ entriesIn n (at + entrySize) c)
+entriesIn (suc n) at c = cond (eqb (getD c at 0) 0) [] (entryAt at c ∷ entriesIn n (at + 68) c)
 
 abbrev pub listedIn : Outcome → List Entry
-listedIn o = entriesIn mostEntries 0 (o .cancel)
+listedIn o = entriesIn 2 0 (o .cancel)
 
 abbrev pub listedBy : Lent → List Entry
 listedBy l = listedIn (outcome l)
@@ -68,11 +74,11 @@ answerIn o = take (o .size) (o .answer)
 abbrev pub answerOf : Lent → List ℕ
 answerOf l = answerIn (outcome l)
 
--- Result-Code and Experimental-Result-Code as the answer's bytes have them, 0 for the one that it does not hold
+-- Result-Code (268) and, in Experimental-Result (297), Experimental-Result-Code (298) as the answer's bytes have them, 0 for the one that it does not hold
 unfoldable pub codesIn : List ℕ → List ℕ
 codesIn a =
-    numberOf resultCode a ∷
-    numAt 4 (bodyFound (find experimentalResultCode (inside (find experimentalResult (avpsOf a))))) 0 ∷
+    numberOf (key 0 268) a ∷
+    numAt 4 (bodyFound (find (key 0 298) (inside (find (key 0 297) (avpsOf a))))) 0 ∷
     []
 
 -- the bytes that the first AVP of the key takes, 0 where there is none

@@ -15,16 +15,14 @@ use Rattle.paper.specs.declared.Visit.the-variants.{Clean}
 use Rattle.paper.specs.Avp.{Avp, bit, bareOf}
 use Rattle.paper.specs.Reader.{Placed, Avps, whole, broken, more, avps, bodyAt, Faulty, orElse, told}
 use Rattle.paper.specs.Find.{hasKey}
-use Rattle.paper.specs.Profile.{Key, commandOf, userName, sessionId, originHost, vendorId, resultCode, authSessionState, failedAvp, proxyInfo, originRealm, experimentalResult, experimentalResultCode, bandwidthDownlink, bandwidthUplink, subscriptionData, ulaFlags, visitedPlmnId, subscriberStatus, accessRestrictionData, ambr, puaFlags, purFlags}
-use Rattle.paper.specs.Table.{Slot, mme, sgsn}
-use Rattle.paper.specs.Request.{versionOf, messageLength, isProxiable, commandCode, applicationOf, avpsOf, viewOf, find, isThere, numberOf, requiredIn, imeiOf, ifUsed, repeated, imsiDigits, isName, threeBytes, imeiDigits}
-use Rattle.paper.specs.Procedures.{sender, isUlr, isPur, skipSubscriberData, isSender}
+use Rattle.paper.specs.Profile.{Key, key}
+use Rattle.paper.specs.Request.{avpsOf, viewOf, find, isThere, valueOf, numberOf, repeated}
 use Rattle.paper.specs.Widened.{shownOf}
 use Rattle.paper.specs.Shown.{stretch}
 use Rattle.paper.specs.ShownIn.{Standing}
 use Rattle.paper.specs.Outcome.{Lent, Outcome, outcome}
 use Rattle.paper.specs.Read.{before, answerIn, codesIn, listedIn}
-use Rattle.paper.specs.Refusals.{Said, number, result, experimental, said, wrong}
+use Rattle.paper.specs.Refusals.{Said, number, result, experimental, said, requiredSaid, userNameOf, originHostOf, visitedPlmnIdOf, imeiSent, wrong, nameSaid, imsiSaid, imeiSaid, isNamed}
 
 -- ---- what is read in a list of AVPs
 
@@ -79,11 +77,11 @@ tells code (number n) = false
 tells code (result c) = eqb c code
 tells code (experimental c) = false
 
--- "Result-Code (success 2001) or Experimental-Result (Vendor-Id, Experimental-Result-Code)"
+-- "Result-Code (success 2001) or Experimental-Result (Vendor-Id, Experimental-Result-Code)": 268, 297, 266, 298
 unfoldable pub resultPart : Said → Held
 resultPart (number n) = no-more
-resultPart (result code) = a-number resultCode code
-resultPart (experimental code) = a-group experimentalResult (a-number vendorId 10415 and-then a-number experimentalResultCode code)
+resultPart (result code) = a-number (key 0 268) code
+resultPart (experimental code) = a-group (key 0 297) (a-number (key 0 266) 10415 and-then a-number (key 0 298) code)
 
 -- "Session-Id (the first, if any)"
 unfoldable pub firstPart : Key → Option Placed → Held
@@ -104,23 +102,26 @@ isFaulty (some f) = true
 unfoldable pub unechoed : List ℕ → Said → Bool
 unechoed m s = tells 5011 s || (tells 5015 s || (tells 3008 s || isFaulty (viewOf m .fault)))
 
--- "Subscription-Data: Subscriber-Status 0; Access-Restriction-Data if not 0; AMBR (uplink, downlink).", of the record's bytes 24–27, 196–199, 200–203
+-- "Subscription-Data: Subscriber-Status 0; Access-Restriction-Data if not 0; AMBR (uplink, downlink).", of the record's bytes 24–27, 196–199, 200–203;
+-- their codes, in this order: 1400, 1424, 1426, 1435, 516, 515
 unfoldable pub subscriptionPart : List ℕ → Held
 subscriptionPart r =
-    a-group subscriptionData
-    (a-number subscriberStatus 0
-    and-then cond (eqb (numAt 4 r 24) 0) no-more (a-number accessRestrictionData (numAt 4 r 24))
-    and-then a-group ambr (a-number bandwidthUplink (numAt 4 r 196) and-then a-number bandwidthDownlink (numAt 4 r 200)))
+    a-group (key 10415 1400)
+    (a-number (key 10415 1424) 0
+    and-then cond (eqb (numAt 4 r 24) 0) no-more (a-number (key 10415 1426) (numAt 4 r 24))
+    and-then a-group (key 10415 1435) (a-number (key 10415 516) (numAt 4 r 196) and-then a-number (key 10415 515) (numAt 4 r 200)))
 
--- the request sets the purge bit of a node: "without PUR-Flags each registered name equal to Origin-Host [..]; with PUR-Flags only where its bit is set too"
-abbrev pub setsBit : Slot → List ℕ → List ℕ → Bool
-setsBit slot m r = isSender slot (sender m) r && (not (isThere (find purFlags (avpsOf m))) || bit (slot .purgeBit) (numberOf purFlags m))
+-- the request sets the purge bit of the node whose name length is byte `at` of the record and whose bit in PUR-Flags (1635) is `k`: "without PUR-Flags each registered
+-- name equal to Origin-Host [..]; with PUR-Flags only where its bit is set too"
+abbrev pub setsBit : ℕ → ℕ → List ℕ → List ℕ → Bool
+setsBit at k m r = isNamed at (valueOf (key 0 264) m) r && (not (isThere (find (key 10415 1635) (avpsOf m))) || bit k (numberOf (key 10415 1635) m))
 
--- "on success ULA-Flags 1, and Subscription-Data unless skipped, or PUA-Flags (bit 0 MME, bit 1 SGSN: the purge bits this request sets, set before or not)"
+-- "on success ULA-Flags 1, and Subscription-Data unless skipped, or PUA-Flags (bit 0 MME, bit 1 SGSN: the purge bits this request sets, set before or not)";
+-- ULA-Flags 1406, PUA-Flags 1442; Skip-Subscriber-Data is bit 2 of ULR-Flags, 1405
 unfoldable pub successPart : List ℕ → List ℕ → Held
 successPart m r =
-    cond (isUlr m) (a-number ulaFlags 1 and-then cond (skipSubscriberData m) no-more (subscriptionPart r))
-    (cond (isPur m) (a-number puaFlags (cond (setsBit mme m r) 1 0 + cond (setsBit sgsn m r) 2 0)) no-more)
+    cond (eqb (numAt 3 m 5) 316) (a-number (key 10415 1406) 1 and-then cond (bit 2 (numberOf (key 10415 1405) m)) no-more (subscriptionPart r))
+    (cond (eqb (numAt 3 m 5) 321) (a-number (key 10415 1442) (cond (setsBit 64 0 m r) 1 0 + cond (setsBit 129 1 m r) 2 0)) no-more)
 
 -- ---- Failed-AVP
 
@@ -146,37 +147,37 @@ firstLacking (k ∷ ks) l = cond (isThere (find k l)) (firstLacking ks l) (some 
 -- "User-Name not 6–15 digits; Origin-Host not 1–64 name bytes; Visited-PLMN-Id not 3 bytes; IMEI not 14 or 15 digits; in this order"
 unfoldable pub firstWrong : List ℕ → Option Placed
 firstWrong m =
-    cond (wrong imsiDigits (ifUsed userName m)) (ifUsed userName m)
-    (cond (wrong isName (ifUsed originHost m)) (ifUsed originHost m)
-    (cond (wrong threeBytes (ifUsed visitedPlmnId m)) (ifUsed visitedPlmnId m)
-    (cond (wrong imeiDigits (imeiOf m)) (imeiOf m) none)))
+    cond (wrong imsiSaid (userNameOf m)) (userNameOf m)
+    (cond (wrong nameSaid (originHostOf m)) (originHostOf m)
+    (cond (wrong (λ x. eqb (length x) 3) (visitedPlmnIdOf m)) (visitedPlmnIdOf m)
+    (cond (wrong imeiSaid (imeiSent m)) (imeiSent m) none)))
 
 -- "Failed-AVP for Result-Codes 5001, 5004, 5005, 5009, 5014"; beside faults and absences it "holds the AVP itself, its data as received" (`shownOf`)
 unfoldable pub failedBy : List ℕ → Said → Option Avp
 failedBy m s =
     cond (tells 5001 s) (shownOf (viewOf m .unsupported))
     (cond (tells 5004 s) (orElse (headOf (viewOf m .fault)) (shownOf (firstWrong m)))
-    (cond (tells 5005 s) (firstLacking (requiredIn (commandOf (commandCode m))) (avpsOf m))
+    (cond (tells 5005 s) (firstLacking (requiredSaid (numAt 3 m 5)) (avpsOf m))
     (cond (tells 5009 s) (shownOf (repeated m))
     (cond (tells 5014 s) (headOf (viewOf m .fault)) none))))
 
 unfoldable pub failedPart : Option Avp → Held
 failedPart none = no-more
-failedPart (some a) = showing failedAvp a no-more
+failedPart (some a) = showing (key 0 279) a no-more
 
 -- ---- the whole
 
 -- "AVPs in order", of the answer to the request `m` that was told `s`; `r` is the record with its IMSI as it was
 unfoldable pub holds : List ℕ → List ℕ → List ℕ → List ℕ → Said → Held
 holds m host realm r s =
-    cond (unechoed m s) no-more (firstPart sessionId (find sessionId (avpsOf m)))
+    cond (unechoed m s) no-more (firstPart (key 0 263) (find (key 0 263) (avpsOf m)))  -- Session-Id
     and-then resultPart s
-    and-then a-number authSessionState 1
-    and-then a-text originHost host
-    and-then a-text originRealm realm
+    and-then a-number (key 0 277) 1  -- Auth-Session-State
+    and-then a-text (key 0 264) host  -- Origin-Host
+    and-then a-text (key 0 296) realm  -- Origin-Realm
     and-then failedPart (failedBy m s)
     and-then cond (tells 2001 s) (successPart m r) no-more
-    and-then cond (unechoed m s) no-more (eachPart proxyInfo (avpsOf m))
+    and-then cond (unechoed m s) no-more (eachPart (key 0 284) (avpsOf m))  -- Proxy-Info
 
 -- "E set for 3xxx"
 abbrev pub is3xxx : Said → Bool
@@ -186,12 +187,12 @@ is3xxx (experimental code) = false
 
 -- the header: "Version 1; R, E, T clear but E set for 3xxx; P, command, application and both identifiers as received." P is 64, E is 32
 pub record HeaderRead (m a : List ℕ) (s : Said) : Type 0 where
-  pub version : versionOf a ≡ 1
-  pub own-length : messageLength a ≡ length a
+  pub version : getD a 0 0 ≡ 1
+  pub own-length : numAt 3 a 1 ≡ length a
   pub fours : length a % 4 ≡ 0
-  pub flags : getD a 4 0 ≡ cond (isProxiable m) 64 0 + cond (is3xxx s) 32 0
-  pub command : commandCode a ≡ commandCode m
-  pub application : applicationOf a ≡ applicationOf m
+  pub flags : getD a 4 0 ≡ cond (bit 6 (getD m 4 0)) 64 0 + cond (is3xxx s) 32 0
+  pub command : numAt 3 a 5 ≡ numAt 3 m 5
+  pub application : numAt 4 a 8 ≡ numAt 4 m 8
   pub hop-by-hop : numAt 4 a 12 ≡ numAt 4 m 12
   pub end-to-end : numAt 4 a 16 ≡ numAt 4 m 16
 

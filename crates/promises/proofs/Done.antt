@@ -6,24 +6,31 @@ use mathlib.Core.Bool.{true, false}
 use mathlib.Core.List.{List}
 use Prim.Native.Nat.{ℕ, _≤_}
 use lib.ListN.{take}
+use borrow.Author.Tests.{eq-eqb}
+use Rattle.wire.specs.Number.{numAt}
 use Rattle.paper.specs.Clerks.{recordWith, FirstThatHolds, Alters}
-use Rattle.paper.specs.Layout.{mostEntries}
+use Rattle.paper.specs.Correction.{frameImsi}
+use Rattle.paper.specs.ItsRecord.{RequestRecord}
 use Rattle.paper.specs.Outcome.{Lent, Outcome}
-use Rattle.paper.specs.Procedures.{Entry, imsiField, isUlr, isPur, isNor, onS6a}
-use Rattle.paper.specs.Promises.{UpdatesOnS6a, UpdatesOnS6d, AnswersUlr, PurgesUe, Notifies}
+use Rattle.paper.specs.Procedures.{Entry, imsiField}
+use Rattle.paper.specs.Promises.{ulrBit, UpdatesOnS6a, UpdatesOnS6d, AnswersUlr, PurgesUe, Notifies}
 use Rattle.paper.specs.Read.{entriesIn}
-use Rattle.paper.specs.Refusals.{Said, number, result, experimental, said, refusals, First}
+use Rattle.paper.specs.Refusals.{Said, number, result, experimental, said, refusals, First, NumberSaid}
+use Rattle.paper.specs.Table.{valid}
 use Rattle.paper.specs.Untouched.{OnlyItsRecord, NoRecord, NoByte}
 use Rattle.paper.proofs.CorrectionCases.{corrected-cases}
 use Rattle.paper.proofs.CorrectionLaws.{accepted-alters}
 use Rattle.paper.proofs.OutcomeLaws.{outcome-size}
 use Rattle.paper.proofs.PromiseAnswer as paper-answer
 use Rattle.paper.proofs.PromiseNor as paper-nor
+use Rattle.paper.proofs.PromiseNumbers as paper-numbers
 use Rattle.paper.proofs.PromisePur as paper-pur
+use Rattle.paper.proofs.PromiseRecord as paper-record
+use Rattle.paper.proofs.PromiseRecord.{its-record}
 use Rattle.paper.proofs.PromiseRefusals as paper-refusals
 use Rattle.paper.proofs.PromiseUlr as paper-ulr
 use Rattle.paper.proofs.PromiseUntouched as paper-untouched
-use Rattle.promises.specs.Promises.{UlrOnS6a, UlrOnS6d, UlrAnswered, PurPurges, NorNotifies, FirstThatApplies, CorrectionCases, OnlyItsRecordTouched, AnswerShort, ResultTouchesNothing, ExperimentalTouchesNothing, NumberTouchesNothing, CorrectionAlters}
+use Rattle.promises.specs.Promises.{RequestRecordIs, UlrOnS6a, UlrOnS6d, UlrAnswered, PurPurges, NorNotifies, FirstThatApplies, NumberAsSaid, CorrectionCases, OnlyItsRecordTouched, AnswerShort, ResultTouchesNothing, ExperimentalTouchesNothing, NumberTouchesNothing, CorrectionAlters, CorrectionRecordIs}
 use Rattle.promises.proofs.CallLaws.{of-call, of-correction}
 
 -- ---- what a promise reads of a request, its table before and its outcome
@@ -35,34 +42,48 @@ abbrev is : Lent → Outcome → List ℕ
 is l o = recordWith (imsiField (l .request)) (o .table)
 
 abbrev list : Outcome → List Entry
-list o = entriesIn mostEntries 0 (o .cancel)
+list o = entriesIn 2 0 (o .cancel)
 
 abbrev answer : Outcome → List ℕ
 answer o = take (o .size) (o .answer)
 
 -- ---- 4. What an accepted request does
 
+pub request-record : RequestRecordIs
+request-record = of-call (λ l o. valid (l .table) ≡ true → RequestRecord (l .request) (l .table) (o .table) (was l) (is l o)) paper-record.request-record
+
 pub ulr-on-s6a : UlrOnS6a
 ulr-on-s6a =
-    of-call (λ l o. said o ≡ result 2001 → isUlr (l .request) ≡ true → onS6a (l .request) ≡ true → UpdatesOnS6a (l .request) (was l) (is l o) (list o)) paper-ulr.ulr-on-s6a
+    of-call (λ l o. said o ≡ result 2001 → numAt 3 (l .request) 5 ≡ 316 → ulrBit 1 (l .request) ≡ true → UpdatesOnS6a (l .request) (was l) (is l o) (list o))
+    (λ l a e. paper-ulr.ulr-on-s6a l a (eq-eqb (numAt 3 (l .request) 5) 316 e))
 
 pub ulr-on-s6d : UlrOnS6d
 ulr-on-s6d =
-    of-call (λ l o. said o ≡ result 2001 → isUlr (l .request) ≡ true → onS6a (l .request) ≡ false → UpdatesOnS6d (l .request) (was l) (is l o) (list o)) paper-ulr.ulr-on-s6d
+    of-call (λ l o. said o ≡ result 2001 → numAt 3 (l .request) 5 ≡ 316 → ulrBit 1 (l .request) ≡ false → UpdatesOnS6d (l .request) (was l) (is l o) (list o))
+    (λ l a e. paper-ulr.ulr-on-s6d l a (eq-eqb (numAt 3 (l .request) 5) 316 e))
 
 pub ulr-answered : UlrAnswered
-ulr-answered = of-call (λ l o. said o ≡ result 2001 → isUlr (l .request) ≡ true → AnswersUlr (l .request) (answer o)) paper-answer.ulr-answered
+ulr-answered =
+    of-call (λ l o. said o ≡ result 2001 → numAt 3 (l .request) 5 ≡ 316 → AnswersUlr (l .request) (answer o))
+    (λ l a e. paper-answer.ulr-answered l a (eq-eqb (numAt 3 (l .request) 5) 316 e))
 
 pub pur-purges : PurPurges
-pur-purges = of-call (λ l o. said o ≡ result 2001 → isPur (l .request) ≡ true → PurgesUe (l .request) (was l) (is l o) (list o) (answer o)) paper-pur.pur-purges
+pur-purges =
+    of-call (λ l o. said o ≡ result 2001 → numAt 3 (l .request) 5 ≡ 321 → PurgesUe (l .request) (was l) (is l o) (list o) (answer o))
+    (λ l a e. paper-pur.pur-purges l a (eq-eqb (numAt 3 (l .request) 5) 321 e))
 
 pub nor-notifies : NorNotifies
-nor-notifies = of-call (λ l o. said o ≡ result 2001 → isNor (l .request) ≡ true → Notifies (l .request) (was l) (is l o) (list o)) paper-nor.nor-notifies
+nor-notifies =
+    of-call (λ l o. said o ≡ result 2001 → numAt 3 (l .request) 5 ≡ 323 → Notifies (l .request) (was l) (is l o) (list o))
+    (λ l a e. paper-nor.nor-notifies l a (eq-eqb (numAt 3 (l .request) 5) 323 e))
 
 -- ---- 5. Refusals
 
 pub first-that-applies : FirstThatApplies
 first-that-applies = of-call (λ l o. (x : Said) → (said o ≡ x) ↔ First l refusals x) paper-refusals.first-that-applies
+
+pub number-as-said : NumberAsSaid
+number-as-said = of-call (λ l o. NumberSaid o) paper-numbers.number-said
 
 pub correction-cases : CorrectionCases
 correction-cases = of-correction FirstThatHolds corrected-cases
@@ -86,3 +107,6 @@ number-touches-nothing = of-call (λ l o. (n : ℕ) → said o ≡ number n → 
 
 pub correction-alters : CorrectionAlters
 correction-alters = of-correction (λ t f x. x .number ≡ 0 → (i : ℕ) × Alters t f (x .table) i) accepted-alters
+
+pub correction-record : CorrectionRecordIs
+correction-record c = its-record (frameImsi (c .frame)) (c .table)

@@ -7,7 +7,8 @@ use mathlib.Core.Option.{none, some}
 use mathlib.Core.List.{List, [], _∷_, _++_}
 use Prim.Native.Nat.{ℕ, _-_, _/_, _%_, _^_, _≤_, _<_}
 use lib.ListN.{take, drop, replicate}
-use Rattle.wire.specs.Number.{Bytes}
+use Rattle.wire.specs.Number.{numAt, Bytes}
+use Rattle.wire.specs.Put.{part}
 use Rattle.dictionary.specs.declared.Kind.the-variants.{Unknown}
 use Rattle.dictionary.specs.Rows.{kindOf}
 use Rattle.paper.specs.declared.Verdict.the-variants.{Base}
@@ -16,18 +17,19 @@ use Rattle.paper.specs.Attach.{tableAfter, attachAnswer, attachCancel, attachLe
 use Rattle.paper.specs.Avp.{Avp, codeOf, vendorOf, flagsOf, avpOf, hasM}
 use Rattle.paper.specs.Clerks.{recordWith, standingOf, FirstThatHolds, Alters}
 use Rattle.paper.specs.Correction.{frameImsi, frameSeen}
-use Rattle.paper.specs.Layout.{messageHeader, mostEntries}
+use Rattle.paper.specs.ItsRecord.{ItsRecord, RequestRecord}
+use Rattle.paper.specs.Layout.{messageHeader}
 use Rattle.paper.specs.Newer.{WidenedRequest, asking, Accepting, unsupportedOutcome, withAvps, Fits, strippedRequest}
-use Rattle.paper.specs.Procedures.{Entry, imsiField, isUlr, isPur, isNor, onS6a}
-use Rattle.paper.specs.Promises.{UpdatesOnS6a, UpdatesOnS6d, AnswersUlr, PurgesUe, Notifies}
+use Rattle.paper.specs.Procedures.{Entry, imsiField}
+use Rattle.paper.specs.Promises.{ulrBit, UpdatesOnS6a, UpdatesOnS6d, AnswersUlr, PurgesUe, Notifies}
 use Rattle.paper.specs.Read.{entriesIn, codesIn}
 use Rattle.paper.specs.ReadBack.{ReadBack}
 use Rattle.paper.specs.Refusals as Refusals
-use Rattle.paper.specs.Refusals.{Said, number, result, said, refusals, First}
+use Rattle.paper.specs.Refusals.{Said, number, result, said, refusals, First, NumberSaid}
 use Rattle.paper.specs.Request.{viewOf}
 use Rattle.paper.specs.Run as Run
 use Rattle.paper.specs.Run.{Step, asks, corrects, Came, asked, put-right, acceptedIn}
-use Rattle.paper.specs.Table.{valid, changeOf}
+use Rattle.paper.specs.Table.{valid, lookup, changeOf}
 use Rattle.paper.specs.Untouched.{OnlyItsRecord, NoRecord, NoByte}
 use Rattle.paper.specs.Widened.{OneAvp, Inserted, Clear}
 use Rattle.reader.specs.Message.{messageOf}
@@ -91,30 +93,39 @@ abbrev pub after : Call → List ℕ
 after c = recordWith (imsiField (c .lent .request)) (c .left .table)
 
 abbrev pub entries : Call → List Entry
-entries c = entriesIn mostEntries 0 (c .left .cancel)
+entries c = entriesIn 2 0 (c .left .cancel)
 
 abbrev pub answerOf : Call → List ℕ
 answerOf c = take (c .left .size) (c .left .answer)
 
+-- which record that is: in a valid table the counted one with the IMSI of User-Name, at one place before and after
+abbrev pub RequestRecordIs : Type 0
+RequestRecordIs = (c : Call) → valid (c .lent .table) ≡ true → RequestRecord (c .lent .request) (c .lent .table) (c .left .table) (before c) (after c)
+
+-- bytes 5–7 of the header are the command: 316 ULR, 321 PUR, 323 NOR
 abbrev pub UlrOnS6a : Type 0
-UlrOnS6a = (c : Call) → Success c → isUlr (c .lent .request) ≡ true → onS6a (c .lent .request) ≡ true → UpdatesOnS6a (c .lent .request) (before c) (after c) (entries c)
+UlrOnS6a = (c : Call) → Success c → numAt 3 (c .lent .request) 5 ≡ 316 → ulrBit 1 (c .lent .request) ≡ true → UpdatesOnS6a (c .lent .request) (before c) (after c) (entries c)
 
 abbrev pub UlrOnS6d : Type 0
-UlrOnS6d = (c : Call) → Success c → isUlr (c .lent .request) ≡ true → onS6a (c .lent .request) ≡ false → UpdatesOnS6d (c .lent .request) (before c) (after c) (entries c)
+UlrOnS6d = (c : Call) → Success c → numAt 3 (c .lent .request) 5 ≡ 316 → ulrBit 1 (c .lent .request) ≡ false → UpdatesOnS6d (c .lent .request) (before c) (after c) (entries c)
 
 abbrev pub UlrAnswered : Type 0
-UlrAnswered = (c : Call) → Success c → isUlr (c .lent .request) ≡ true → AnswersUlr (c .lent .request) (answerOf c)
+UlrAnswered = (c : Call) → Success c → numAt 3 (c .lent .request) 5 ≡ 316 → AnswersUlr (c .lent .request) (answerOf c)
 
 abbrev pub PurPurges : Type 0
-PurPurges = (c : Call) → Success c → isPur (c .lent .request) ≡ true → PurgesUe (c .lent .request) (before c) (after c) (entries c) (answerOf c)
+PurPurges = (c : Call) → Success c → numAt 3 (c .lent .request) 5 ≡ 321 → PurgesUe (c .lent .request) (before c) (after c) (entries c) (answerOf c)
 
 abbrev pub NorNotifies : Type 0
-NorNotifies = (c : Call) → Success c → isNor (c .lent .request) ≡ true → Notifies (c .lent .request) (before c) (after c) (entries c)
+NorNotifies = (c : Call) → Success c → numAt 3 (c .lent .request) 5 ≡ 323 → Notifies (c .lent .request) (before c) (after c) (entries c)
 
 -- ---- 5. Refusals, each in its stated case only
 
 abbrev pub FirstThatApplies : Type 0
 FirstThatApplies = (c : Call) (x : Said) → (said (c .left) ≡ x) ↔ First (c .lent) refusals x
+
+-- the number that a call returns: 0 exactly if it is answered, with a Result-Code or an Experimental-Result, and else one of 3, 5, 4, 1, 2
+abbrev pub NumberAsSaid : Type 0
+NumberAsSaid = (c : Call) → NumberSaid (c .left)
 
 abbrev pub CorrectionCases : Type 0
 CorrectionCases = (c : Correction) → FirstThatHolds (c .table) (c .frame) (c .left)
@@ -203,6 +214,11 @@ NumberTouchesNothing = (c : Call) (n : ℕ) → said (c .left) ≡ number n → 
 -- a correction that is accepted alters the record that it names, at the change number seen, and nothing else
 abbrev pub CorrectionAlters : Type 0
 CorrectionAlters = (c : Correction) → c .left .number ≡ 0 → (i : ℕ) × Alters (c .table) (c .frame) (c .left .table) i
+
+-- which record it names: in a valid table the counted one with the 16 bytes of the frame from byte 4 on
+abbrev pub CorrectionRecordIs : Type 0
+CorrectionRecordIs =
+    (c : Correction) → valid (c .table) ≡ true → ItsRecord (part 4 16 (c .frame)) (c .table) (lookup (frameImsi (c .frame)) (c .table)) (recordWith (frameImsi (c .frame)) (c .table))
 
 -- ---- 10. Not empty
 
