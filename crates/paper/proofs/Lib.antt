@@ -11,6 +11,7 @@ pub mod CorrectionCases
 mod CorrectionExamples
 pub mod CorrectionFields
 pub mod CorrectionLaws
+pub mod CorrectionSaid
 pub mod Cover
 mod DeskExamples
 pub mod DeskLaws
@@ -76,6 +77,7 @@ pub mod TableLaws
 pub mod TestLaws
 pub mod Totals
 pub mod UlrSizes
+pub mod ValueLaws
 pub mod ViewLaws
 pub mod WidenedView
 pub mod WrittenLaws

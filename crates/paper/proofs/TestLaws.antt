@@ -24,6 +24,13 @@ pub or-false-right : (a b : Bool) → a || b ≡ false → b ≡ false
 or-false-right false b e = e
 or-false-right true b e = absurd (false≢true (sym e))
 
+-- ---- two tests
+
+pub same-when-true : (a b : Bool) → (a ≡ true → b ≡ true) → (b ≡ true → a ≡ true) → a ≡ b
+same-when-true true b p q = sym (p refl)
+same-when-true false true p q = q refl
+same-when-true false false p q = refl
+
 -- ---- a choice
 
 -- a choice between two images is the image of the choice

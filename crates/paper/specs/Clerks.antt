@@ -2,19 +2,19 @@
 -- and several clerks who correct one table in turn.
 -- Assumes nothing.
 use mathlib.Core.Path.{_≡_}
-use mathlib.Core.Logic.{_↔_, _≢_}
+use mathlib.Core.Logic.{_↔_, _≢_, _⊎_}
 use mathlib.Core.Bool.{Bool, true, false, cond, _&&_, _||_, not}
 use mathlib.Core.Option.{Option, none, some}
 use mathlib.Core.List.{List, [], _∷_, _++_}
 use Prim.Native.Nat.{ℕ, suc, _+_}
-use lib.ListN.{length, take, getD}
+use lib.ListN.{length, take, drop, getD, replicate}
 use lib.Dec.{leb, ltb, eqb}
 use Rattle.wire.specs.Number.{numAt}
-use Rattle.wire.specs.Put.{part}
+use Rattle.wire.specs.Put.{part, put}
 use Rattle.wire.specs.Stretch.{same}
 use Rattle.paper.specs.Layout.{tableHeader, changeAt, subscriptionAt, restrictionAt, plmnCountAt, plmnsAt, ambrAt}
-use Rattle.paper.specs.Table.{valid, lookup, recordOf, changeOf}
-use Rattle.paper.specs.Correction.{frameHead, frameVersion, frameKind, frameImsi, frameSeen, frameValue, valueSize, valueRight, nextChange, Corrected, corrected}
+use Rattle.paper.specs.Table.{recordRight, valid, lookup, recordOf, changeOf}
+use Rattle.paper.specs.Correction.{frameHead, frameVersion, frameKind, frameImsi, frameSeen, frameValue, valueSize, nextChange, Corrected, corrected}
 
 -- ---- the cases of refusal
 
@@ -30,6 +30,18 @@ abbrev pub isNone : Option ℕ → Bool
 isNone none = true
 isNone (some i) = false
 
+-- the record `r` with the value `v` stored: "Kinds: 1 byte 20; 2 bytes 24–27; 3 byte 28 and 32–55 (25 bytes); 4 bytes 196–203"
+unfoldable pub withValue : ℕ → List ℕ → List ℕ → List ℕ
+withValue kind v r =
+    cond (eqb kind 1) (put 20 v r)
+    (cond (eqb kind 2) (put 24 v r)
+    (cond (eqb kind 3) (put 32 (drop 1 v) (put 28 (take 1 v) r))
+    (put 196 v r)))
+
+-- a right record: the IMSI 000000, and nothing else
+unfoldable pub plainRecord : List ℕ
+plainRecord = 6 ∷ (replicate 6 48 ++ replicate 249 0)
+
 -- a number of 01's list, and when its case holds of a table and a frame
 pub record Case : Type 0 where
   pub number : ℕ
@@ -44,7 +56,7 @@ cases =
     record { number = 12; holds = λ t f. not (eqb (getD f 2 0) frameVersion) } ∷
     record { number = 13; holds = λ t f. eqb (valueSize (frameKind f)) 0 } ∷
     record { number = 14; holds = λ t f. not (eqb (length f) (frameHead + valueSize (frameKind f))) } ∷
-    record { number = 15; holds = λ t f. not (valueRight (frameKind f) (frameValue f)) } ∷
+    record { number = 15; holds = λ t f. not (recordRight (withValue (getD f 3 0) (drop 24 f) plainRecord)) } ∷
     record { number = 16; holds = λ t f. isNone (lookup (frameImsi f) t) } ∷
     record { number = 17; holds = λ t f. not (eqb (changeOf (recordWith (frameImsi f) t)) (frameSeen f)) } ∷
     []
@@ -65,6 +77,13 @@ pub record FirstThatHolds (t f : List ℕ) (x : Corrected) : Type 0 where
   pub refused : (n : ℕ) → n ≢ 0 → (x .number ≡ n) ↔ First t f cases n
   pub success : (x .number ≡ 0) ↔ (noneHolds t f cases ≡ true)
   pub unchanged : x .number ≢ 0 → x .table ≡ t
+
+-- "15 value not valid in a table": the value that a frame has behind byte 23, of the kind in byte 3, is refused for what it would do to any right record.
+-- Number 15 says that it breaks a rule of the table wherever it is stored; the numbers behind 15, and success, that it breaks none.
+pub record ValueJudged (f : List ℕ) (x : Corrected) : Type 0 where
+  pub breaks : x .number ≡ 15 → (r : List ℕ) → length r ≡ 256 → recordRight r ≡ true → recordRight (withValue (getD f 3 0) (drop 24 f) r) ≡ false
+  pub keeps : (x .number ≡ 0) ⊎ ((x .number ≡ 16) ⊎ (x .number ≡ 17)) → (r : List ℕ) → length r ≡ 256 → recordRight r ≡ true
+      → recordRight (withValue (getD f 3 0) (drop 24 f) r) ≡ true
 
 -- ---- what an accepted correction alters
 

@@ -6,7 +6,7 @@ use mathlib.Core.Bool.{true, false}
 use mathlib.Core.List.{List}
 use Prim.Native.Nat.{ℕ, _≤_}
 use lib.ListN.{take}
-use Rattle.paper.specs.Clerks.{recordWith, FirstThatHolds, Alters}
+use Rattle.paper.specs.Clerks.{recordWith, FirstThatHolds, ValueJudged, Alters}
 use Rattle.paper.specs.Layout.{mostEntries}
 use Rattle.paper.specs.Outcome.{Lent, Outcome}
 use Rattle.paper.specs.Procedures.{Entry, imsiField, isUlr, isPur, isNor, onS6a}
@@ -14,8 +14,8 @@ use Rattle.paper.specs.Promises.{UpdatesOnS6a, UpdatesOnS6d, AnswersUlr, Purges
 use Rattle.paper.specs.Read.{entriesIn}
 use Rattle.paper.specs.Refusals.{Said, number, result, experimental, said, refusals, First}
 use Rattle.paper.specs.Untouched.{OnlyItsRecord, NoRecord, NoByte}
-use Rattle.paper.proofs.CorrectionCases.{corrected-cases}
 use Rattle.paper.proofs.CorrectionLaws.{accepted-alters}
+use Rattle.paper.proofs.CorrectionSaid.{corrected-cases, value-of-correction}
 use Rattle.paper.proofs.OutcomeLaws.{outcome-size}
 use Rattle.paper.proofs.PromiseAnswer as paper-answer
 use Rattle.paper.proofs.PromiseNor as paper-nor
@@ -23,7 +23,7 @@ use Rattle.paper.proofs.PromisePur as paper-pur
 use Rattle.paper.proofs.PromiseRefusals as paper-refusals
 use Rattle.paper.proofs.PromiseUlr as paper-ulr
 use Rattle.paper.proofs.PromiseUntouched as paper-untouched
-use Rattle.promises.specs.Promises.{UlrOnS6a, UlrOnS6d, UlrAnswered, PurPurges, NorNotifies, FirstThatApplies, CorrectionCases, OnlyItsRecordTouched, AnswerShort, ResultTouchesNothing, ExperimentalTouchesNothing, NumberTouchesNothing, CorrectionAlters}
+use Rattle.promises.specs.Promises.{UlrOnS6a, UlrOnS6d, UlrAnswered, PurPurges, NorNotifies, FirstThatApplies, CorrectionCases, CorrectionValue, OnlyItsRecordTouched, AnswerShort, ResultTouchesNothing, ExperimentalTouchesNothing, NumberTouchesNothing, CorrectionAlters}
 use Rattle.promises.proofs.CallLaws.{of-call, of-correction}
 
 -- ---- what a promise reads of a request, its table before and its outcome
@@ -66,6 +66,9 @@ first-that-applies = of-call (λ l o. (x : Said) → (said o ≡ x) ↔ First l 
 
 pub correction-cases : CorrectionCases
 correction-cases = of-correction FirstThatHolds corrected-cases
+
+pub correction-value : CorrectionValue
+correction-value = of-correction (λ t f x. ValueJudged f x) value-of-correction
 
 -- ---- 8. Nothing else
 

@@ -14,7 +14,7 @@ use Rattle.paper.specs.declared.Verdict.the-variants.{Base}
 use Rattle.paper.specs.declared.Visit.the-variants.{Clean}
 use Rattle.paper.specs.Attach.{tableAfter, attachAnswer, attachCancel, attachLent}
 use Rattle.paper.specs.Avp.{Avp, codeOf, vendorOf, flagsOf, avpOf, hasM}
-use Rattle.paper.specs.Clerks.{recordWith, standingOf, FirstThatHolds, Alters}
+use Rattle.paper.specs.Clerks.{recordWith, standingOf, FirstThatHolds, ValueJudged, Alters}
 use Rattle.paper.specs.Correction.{frameImsi, frameSeen}
 use Rattle.paper.specs.Layout.{messageHeader, mostEntries}
 use Rattle.paper.specs.Newer.{WidenedRequest, asking, Accepting, unsupportedOutcome, withAvps, Fits, strippedRequest}
@@ -118,6 +118,10 @@ FirstThatApplies = (c : Call) (x : Said) → (said (c .left) ≡ x) ↔ First (c
 
 abbrev pub CorrectionCases : Type 0
 CorrectionCases = (c : Correction) → FirstThatHolds (c .table) (c .frame) (c .left)
+
+-- 15 is given where the value, in any right record, would break a rule of the table, and nowhere else
+abbrev pub CorrectionValue : Type 0
+CorrectionValue = (c : Correction) → ValueJudged (c .frame) (c .left)
 
 -- ---- 6. A run
 
