@@ -16,7 +16,7 @@ use Rattle.wire.specs.Put.{put}
 use Rattle.wire.proofs.ListLaws.{and-true-left, and-true-right}
 use Rattle.wire.proofs.PutLaws.{put-before, put-after, read-back}
 use Rattle.paper.specs.Layout.{recordSize, changeAt, subscriptionAt, restrictionAt, plmnCountAt, plmnsAt, ambrAt}
-use Rattle.paper.specs.Table.{recordRight, recordAt, recordOf, imsiOf, changeOf, valid, lookup}
+use Rattle.paper.specs.Table.{recordRight, recordAt, recordOf, countOf, imsiOf, changeOf, valid, lookup}
 use Rattle.paper.specs.Correction.{frameHead, frameVersion, frameKind, frameImsi, frameSeen, frameValue, valueSize, valueRight, storeValue, nextChange, accepted, refused, onRecord, corrected}
 use Rattle.paper.specs.Clerks.{recordAtPlace, recordWith, isNone, First, noneHolds, withValue, changeField, fieldsOfKind, heldIn, liesIn, Alters}
 use Rattle.paper.proofs.TableLaws.{Valid, valid-parts, valid-whole, length-record, lookup-some, lookup-inside, Replaced, replaced-then, replaced-store, replaced-valid, replaced-lookup, imsi-put}
@@ -215,11 +215,14 @@ module _ (t f : List ℕ) (p : Passed t f) where
       valid-whole (corrected t f .table) (replaced-valid (p .place) renewed t (corrected t f .table) corrected-replaced renewed-imsi table-valid right)
 
   pub passed-alters : Alters t f (corrected t f .table) (p .place)
+  unfolding recordOf countOf nextChange
   passed-alters =
       let z = corrected-replaced in
       let s = next-small (changeOf named) in
+      let k = lookup-some (frameImsi f) t (p .place) (p .found) in
       record {
-        named = p .found;
+        inside = k .0;
+        named = k .1;
         seen = p .seen;
         counted = ap changeOf (z .own) ∙ record-change (frameKind f) next (frameValue f) named (p .kind) value-sized named-long s ∙ ap nextChange (p .seen);
         stored = ap (heldIn (fieldsOfKind (frameKind f))) (z .own) ∙ record-held (frameKind f) next (frameValue f) named (p .kind) value-sized named-long s;

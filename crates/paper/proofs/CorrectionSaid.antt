@@ -2,18 +2,24 @@
 -- Assumes nothing.
 use mathlib.Core.Path.{_≡_, refl, sym, ap, _∙_}
 use mathlib.Core.Logic.{_⊎_, _≢_, ⊎-elim}
-use mathlib.Core.Bool.{Bool, true, false, cond, _||_, not}
+use mathlib.Core.Bool.{Bool, true, false, cond, _&&_, _||_, not, or-false, true≢false}
+use mathlib.Core.Option.{Option, none, some}
 use mathlib.Core.List.{List}
-use Prim.Native.Nat.{ℕ, _+_, _≤_}
+use Prim.Native.Nat.{ℕ, _+_, _*_, _≤_, _<_}
+use native.Mathlib.Nat.{add-zero}
 use native.Mathlib.Omega.{arith}
 use lib.ListN.{length, drop, getD, length-drop}
 use lib.Dec.{ltb, eqb}
 use borrow.Author.Tests.{eqb-true, not-true, not-false}
 use Rattle.wire.specs.Number.{numAt}
-use Rattle.paper.specs.Table.{recordRight, valid, lookup, changeOf}
+use Rattle.wire.specs.Put.{part}
+use Rattle.wire.specs.Stretch.{same}
+use Rattle.wire.proofs.StretchLaws.{same-true, same-equal, same-differ}
+use Rattle.paper.specs.Table.{recordRight, recordOf, countOf, imsiOf, allBelow, valid, lookup, changeOf}
 use Rattle.paper.specs.Correction.{frameHead, frameVersion, frameKind, frameImsi, frameSeen, frameValue, valueSize, valueRight, corrected}
-use Rattle.paper.specs.Clerks.{recordWith, isNone, cases, FirstThatHolds, withValue, ValueJudged}
-use Rattle.paper.proofs.StoreLaws.{Corrects, corrects}
+use Rattle.paper.specs.Clerks.{recordAtPlace, recordWith, isNone, noRecord, cases, FirstThatHolds, withValue, ValueJudged}
+use Rattle.paper.proofs.StoreLaws.{Corrects, subscription, restriction, plmns, ambr, corrects}
+use Rattle.paper.proofs.TableLaws.{allBelow-intro, allBelow-false, valid-parts, part-of-record, number-of-record, imsi-once, lookup-some, none-found}
 use Rattle.paper.proofs.ValueLaws.{value-judged, plain-judged}
 use Rattle.paper.proofs.CorrectionCases.{firstNumber, positive, first-number, number-first, none-number, number-none, tests, corrected-number, refused-alters-nothing}
 
@@ -27,6 +33,75 @@ cond-agree false d n e h = rw (← e) (h refl)
 value-sized : (f : List ℕ) → not (eqb (length f) (frameHead + valueSize (frameKind f))) ≡ false → length (frameValue f) ≡ valueSize (frameKind f)
 value-sized f e = let h : length f ≡ frameHead + valueSize (frameKind f) = eqb-true _ _ (not-false _ e) in simp length-drop (omega arith)
 
+-- 13: a kind has a size exactly if it is one of 01's
+kind-said : (k : ℕ) → eqb (valueSize k) 0 ≡ not (eqb k 1 || (eqb k 2 || (eqb k 3 || eqb k 4)))
+unfolding valueSize
+kind-said k = go (eqb k 1) (eqb k 2) (eqb k 3) (eqb k 4)
+  where
+    go : (a b c d : Bool) → eqb (cond a 1 (cond b 4 (cond c 25 (cond d 8 0)))) 0 ≡ not (a || (b || (c || d)))
+    go true b c d = refl
+    go false true c d = refl
+    go false false true d = refl
+    go false false false true = refl
+    go false false false false = refl
+
+-- 14: the size is the kind's
+size-said : (k n : ℕ) → Corrects k
+    → eqb n (24 + valueSize k) ≡ eqb k 1 && eqb n 25 || (eqb k 2 && eqb n 28 || (eqb k 3 && eqb n 49 || eqb k 4 && eqb n 32))
+unfolding valueSize
+size-said k n subscription = sym (or-false (eqb n 25))
+size-said k n restriction = sym (or-false (eqb n 28))
+size-said k n plmns = sym (or-false (eqb n 49))
+size-said k n ambr = refl
+
+module _ (t : List ℕ) (right : valid t ≡ true) where
+  imsi-bytes : (i : ℕ) → part (8 + 256 * i) 16 t ≡ imsiOf (recordOf t i)
+  imsi-bytes i = sym (simp add-zero at (part-of-record t i 0 16 (omega arith)))
+
+  -- 16: no record has the IMSI
+  imsi-said : (imsi : List ℕ) → isNone (lookup imsi t) ≡ noRecord (λ at. same (part at 16 t) imsi) t
+  unfolding noRecord countOf
+  imsi-said imsi = go (lookup imsi t) refl
+    where
+      go : (o : Option ℕ) → lookup imsi t ≡ o → isNone o ≡ allBelow (λ i. not (same (part (8 + 256 * i) 16 t) imsi)) (numAt 2 t 6)
+      go none e =
+          sym (allBelow-intro _ (numAt 2 t 6) (λ i h. ap not (same-differ (part (8 + 256 * i) 16 t) imsi (λ q. none-found imsi t i (valid-parts t right) e h (sym (imsi-bytes i) ∙ q)))))
+      go (some i) e =
+          let found = lookup-some imsi t i e in
+          sym (allBelow-false _ (numAt 2 t 6) i (found .0) (ap not (same-equal (part (8 + 256 * i) 16 t) imsi (imsi-bytes i ∙ found .1))))
+
+  -- 17: no record has the IMSI and the change number seen
+  change-said : (imsi : List ℕ) (seen : ℕ) → isNone (lookup imsi t) ≡ false
+      → not (eqb (changeOf (recordWith imsi t)) seen) ≡ noRecord (λ at. same (part at 16 t) imsi && eqb (numAt 4 t (at + 16)) seen) t
+  unfolding noRecord countOf recordWith recordAtPlace
+  change-said imsi seen there = go (lookup imsi t) refl there
+    where
+      change-bytes : (i : ℕ) → numAt 4 t (8 + 256 * i + 16) ≡ changeOf (recordOf t i)
+      change-bytes i = sym (number-of-record 4 t i 16 (omega arith))
+
+      go : (o : Option ℕ) → lookup imsi t ≡ o → isNone o ≡ false
+          → not (eqb (changeOf (recordAtPlace o t)) seen) ≡ allBelow (λ i. not (same (part (8 + 256 * i) 16 t) imsi && eqb (numAt 4 t (8 + 256 * i + 16)) seen)) (numAt 2 t 6)
+      go none e q = absurd (true≢false q)
+      go (some i) e q = decided (eqb (changeOf (recordOf t i)) seen) refl
+        where
+          found : (i < countOf t) × (imsiOf (recordOf t i) ≡ imsi)
+          found = lookup-some imsi t i e
+
+          -- a record with this IMSI is that one
+          differs : eqb (changeOf (recordOf t i)) seen ≡ false → (j : ℕ) → j < countOf t → (b : Bool) → same (part (8 + 256 * j) 16 t) imsi ≡ b
+              → b && eqb (numAt 4 t (8 + 256 * j + 16)) seen ≡ false
+          differs c j h false d = refl
+          differs c j h true d =
+              let one : j ≡ i = imsi-once t (valid-parts t right) j i h (found .0) (sym (imsi-bytes j) ∙ same-true (part (8 + 256 * j) 16 t) imsi d ∙ sym (found .1)) in
+              ap (λ (n : ℕ). eqb n seen) (change-bytes j ∙ ap (λ (k : ℕ). changeOf (recordOf t k)) one) ∙ c
+
+          decided : (b : Bool) → eqb (changeOf (recordOf t i)) seen ≡ b
+              → not b ≡ allBelow (λ j. not (same (part (8 + 256 * j) 16 t) imsi && eqb (numAt 4 t (8 + 256 * j + 16)) seen)) (numAt 2 t 6)
+          decided true c =
+              sym (allBelow-false _ (numAt 2 t 6) i (found .0) (rw (same-equal (part (8 + 256 * i) 16 t) imsi (imsi-bytes i ∙ found .1), change-bytes i, c)))
+          decided false c =
+              sym (allBelow-intro _ (numAt 2 t 6) (λ j h. ap not (differs c j h (same (part (8 + 256 * j) 16 t) imsi) refl)))
+
 same-number : (t f : List ℕ) → firstNumber t f tests ≡ firstNumber t f cases
 unfolding firstNumber tests cases
 same-number t f =
@@ -36,11 +111,15 @@ same-number t f =
     (λ long.
     cond-agree (not (eqb (getD f 2 0) frameVersion)) _ 12 refl
     (λ version.
-    cond-agree (eqb (valueSize (frameKind f)) 0) _ 13 refl
+    cond-agree (eqb (valueSize (frameKind f)) 0) _ 13 (kind-said (frameKind f))
     (λ kind.
-    cond-agree (not (eqb (length f) (frameHead + valueSize (frameKind f)))) _ 14 refl
+    let k = corrects (frameKind f) kind in
+    cond-agree (not (eqb (length f) (frameHead + valueSize (frameKind f)))) _ 14 (ap not (size-said (frameKind f) (length f) k))
     (λ sized.
-    cond-agree (not (valueRight (frameKind f) (frameValue f))) _ 15 (ap not (sym (plain-judged (frameKind f) (frameValue f) (corrects (frameKind f) kind) (value-sized f sized)))) (λ value. refl))))))
+    cond-agree (not (valueRight (frameKind f) (frameValue f))) _ 15 (ap not (sym (plain-judged (frameKind f) (frameValue f) k (value-sized f sized))))
+    (λ value.
+    cond-agree (isNone (lookup (frameImsi f) t)) _ 16 (imsi-said t (not-false _ right) (frameImsi f))
+    (λ there. ap (λ (b : Bool). cond b 17 0) (change-said t (not-false _ right) (frameImsi f) (frameSeen f) there))))))))
 
 -- each number in its case and in no other, and nothing changed where it is a refusal's
 pub corrected-cases : (t f : List ℕ) → FirstThatHolds t f (corrected t f)
@@ -61,9 +140,9 @@ behind true m x n e z = absurd (z e)
 behind false m x n e z = (refl, e)
 
 -- 15 is given for its own test alone
-fifteen : (value absent same : Bool) → _≡_ {A = ℕ} (cond (not value) 15 (cond absent 16 (cond (not same) 17 0))) 15 → value ≡ false
-fifteen false absent same e = refl
-fifteen true true same e = absurd (omega arith)
+fifteen : (value absent seen : Bool) → _≡_ {A = ℕ} (cond (not value) 15 (cond absent 16 (cond (not seen) 17 0))) 15 → value ≡ false
+fifteen false absent seen e = refl
+fifteen true true seen e = absurd (omega arith)
 fifteen true false true e = absurd (omega arith)
 fifteen true false false e = absurd (omega arith)
 
@@ -75,10 +154,10 @@ module _ (t f : List ℕ) (n : ℕ) (z : (m : ℕ) → 4 ≤ m → m ≤ 14 → 
   abbrev absent : Bool
   absent = isNone (lookup (frameImsi f) t)
 
-  abbrev same : Bool
-  same = eqb (changeOf (recordWith (frameImsi f) t)) (frameSeen f)
+  abbrev seen : Bool
+  seen = eqb (changeOf (recordWith (frameImsi f) t)) (frameSeen f)
 
-  passed-to-value : Corrects (frameKind f) × (length (frameValue f) ≡ valueSize (frameKind f)) × (cond (not value) 15 (cond absent 16 (cond (not same) 17 0)) ≡ n)
+  passed-to-value : Corrects (frameKind f) × (length (frameValue f) ≡ valueSize (frameKind f)) × (cond (not value) 15 (cond absent 16 (cond (not seen) 17 0)) ≡ n)
   unfolding firstNumber tests
   passed-to-value =
       let e₀ = sym (corrected-number t f) ∙ e in
@@ -93,7 +172,7 @@ module _ (t f : List ℕ) (n : ℕ) (z : (m : ℕ) → 4 ≤ m → m ≤ 14 → 
   value-in r long right = let p = passed-to-value in value-judged (frameKind f) (frameValue f) r (p .0) (p .1) long right
 
   value-refused : n ≡ 15 → value ≡ false
-  value-refused q = fifteen value absent same (passed-to-value .2 ∙ q)
+  value-refused q = fifteen value absent seen (passed-to-value .2 ∙ q)
 
   value-kept : 15 ≢ n → value ≡ true
   value-kept q = not-false _ (behind (not value) 15 _ n (passed-to-value .2) q .0)

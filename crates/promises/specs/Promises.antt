@@ -7,7 +7,8 @@ use mathlib.Core.Option.{none, some}
 use mathlib.Core.List.{List, [], _∷_, _++_}
 use Prim.Native.Nat.{ℕ, _-_, _/_, _%_, _^_, _≤_, _<_}
 use lib.ListN.{take, drop, replicate}
-use Rattle.wire.specs.Number.{Bytes}
+use Rattle.wire.specs.Number.{numAt, Bytes}
+use Rattle.wire.specs.Put.{part}
 use Rattle.dictionary.specs.declared.Kind.the-variants.{Unknown}
 use Rattle.dictionary.specs.Rows.{kindOf}
 use Rattle.paper.specs.declared.Verdict.the-variants.{Base}
@@ -15,7 +16,6 @@ use Rattle.paper.specs.declared.Visit.the-variants.{Clean}
 use Rattle.paper.specs.Attach.{tableAfter, attachAnswer, attachCancel, attachLent}
 use Rattle.paper.specs.Avp.{Avp, codeOf, vendorOf, flagsOf, avpOf, hasM}
 use Rattle.paper.specs.Clerks.{recordWith, standingOf, FirstThatHolds, ValueJudged, Alters}
-use Rattle.paper.specs.Correction.{frameImsi, frameSeen}
 use Rattle.paper.specs.Layout.{messageHeader, mostEntries}
 use Rattle.paper.specs.Newer.{WidenedRequest, asking, Accepting, unsupportedOutcome, withAvps, Fits, strippedRequest}
 use Rattle.paper.specs.Procedures.{Entry, imsiField, isUlr, isPur, isNor, onS6a}
@@ -27,7 +27,7 @@ use Rattle.paper.specs.Refusals.{Said, number, result, said, refusals, First}
 use Rattle.paper.specs.Request.{viewOf}
 use Rattle.paper.specs.Run as Run
 use Rattle.paper.specs.Run.{Step, asks, corrects, Came, asked, put-right, acceptedIn}
-use Rattle.paper.specs.Table.{valid, changeOf}
+use Rattle.paper.specs.Table.{valid}
 use Rattle.paper.specs.Untouched.{OnlyItsRecord, NoRecord, NoByte}
 use Rattle.paper.specs.Widened.{OneAvp, Inserted, Clear}
 use Rattle.reader.specs.Message.{messageOf}
@@ -161,17 +161,18 @@ RunValid = (t u : List ℕ) → Calls t u → valid t ≡ true → valid u ≡ t
 abbrev pub acceptedFor : List ℕ → {t u : List ℕ} → Calls t u → ℕ
 acceptedFor imsi {t} cs = acceptedIn imsi t (stepsOf cs)
 
--- two clerks who saw one change number of one record are not both obeyed, whatever calls came between, short of 2^32 − 1 accepted corrections of it
+-- two clerks who saw one change number (bytes 20–23 of a frame) of one record (its IMSI bytes 4–19) are not both obeyed, whatever calls came between,
+-- short of 2^32 − 1 accepted corrections of it
 abbrev pub NotBothAccepted : Type 0
 NotBothAccepted =
-    (f g : Correction) (between : Calls (f .left .table) (g .table)) → frameImsi (g .frame) ≡ frameImsi (f .frame) → frameSeen (g .frame) ≡ frameSeen (f .frame)
-    → f .left .number ≡ 0 → g .left .number ≡ 0 → 2 ^ 32 - 1 ≤ acceptedFor (frameImsi (f .frame)) between
+    (f g : Correction) (between : Calls (f .left .table) (g .table)) → part 4 16 (g .frame) ≡ part 4 16 (f .frame) → numAt 4 (g .frame) 20 ≡ numAt 4 (f .frame) 20
+    → f .left .number ≡ 0 → g .left .number ≡ 0 → 2 ^ 32 - 1 ≤ acceptedFor (part 4 16 (f .frame)) between
 
 -- a clerk whose correction is accepted corrects what was seen: at the same change number, with fewer than 2^32 accepted since, all that corrections alter is
 -- the same
 abbrev pub SameAsSeen : Type 0
 SameAsSeen =
-    (imsi t u : List ℕ) (cs : Calls t u) → changeOf (recordWith imsi u) ≡ changeOf (recordWith imsi t) → acceptedFor imsi cs < 2 ^ 32
+    (imsi t u : List ℕ) (cs : Calls t u) → numAt 4 (recordWith imsi u) 16 ≡ numAt 4 (recordWith imsi t) 16 → acceptedFor imsi cs < 2 ^ 32
     → (acceptedFor imsi cs ≡ 0) × (standingOf (recordWith imsi u) ≡ standingOf (recordWith imsi t))
 
 -- ---- 7. Answers read back
