@@ -26,6 +26,7 @@ ELSEWHERE = [
     ("crates/paper/specs/Untouched.antt", {136}, "a promise, as above"),
     ("crates/paper/specs/ReadBack.antt", {10415}, "a promise, as above"),
     ("crates/paper/specs/Clerks.antt", {20, 256}, "a promise, as above"),
+    ("crates/paper/specs/TableSaid.antt", {20, 240, 256}, "a promise, as above"),
     ("crates/promises/specs/Promises.antt", {20, 4292}, "a promise, as above"),
     ("crates/paper/specs/Attach.antt", None, "a closed example"),
     ("crates/paper/specs/Worked.antt", None, "01's worked examples"),

@@ -32,12 +32,17 @@ allHold-at (x ∷ xs) r d (suc k) e h = allHold-at xs r d k (and-true-right (x .
 pub record Right (r : List ℕ) : Type 0 where
   pub imsi : imsiRight r ≡ true
   pub subscription : twoBits subscriptionAt r ≡ true
+  pub unlisted-21 : zeros (part 21 3 r) ≡ true
   pub plmn-count : plmnCountRight r ≡ true
+  pub unlisted-29 : zeros (part 29 3 r) ≡ true
   pub plmns : plmnsRight r ≡ true
   pub purged : purgedRight r ≡ true
+  pub unlisted-57 : zeros (part 57 7 r) ≡ true
   pub mme-name : nameRight mmeAt r ≡ true
   pub sgsn-name : nameRight sgsnAt r ≡ true
+  pub unlisted-194 : zeros (part 194 2 r) ≡ true
   pub imei : imeiRight r ≡ true
+  pub unlisted-220 : zeros (part 220 36 r) ≡ true
 
 pub right-parts : (r : List ℕ) → recordRight r ≡ true → Right r
 unfolding recordRight rules
@@ -45,16 +50,26 @@ right-parts r e =
     record {
       imsi = rule 0 (omega arith);
       subscription = rule 1 (omega arith);
+      unlisted-21 = rule 2 (omega arith);
       plmn-count = rule 3 (omega arith);
+      unlisted-29 = rule 4 (omega arith);
       plmns = rule 5 (omega arith);
       purged = rule 6 (omega arith);
+      unlisted-57 = rule 7 (omega arith);
       mme-name = rule 8 (omega arith);
       sgsn-name = rule 9 (omega arith);
+      unlisted-194 = rule 10 (omega arith);
       imei = rule 11 (omega arith);
+      unlisted-220 = rule 12 (omega arith);
     }
   where
     rule : (k : ℕ) → k < 13 → (getD rules k (record { at = 0; holds = imsiRight })) .holds r ≡ true
     rule k h = allHold-at rules r (record { at = 0; holds = imsiRight }) k e h
+
+pub right-whole : (r : List ℕ) → Right r → recordRight r ≡ true
+unfolding recordRight rules allHold
+right-whole r p =
+    rw (p .imsi, p .subscription, p .unlisted-21, p .plmn-count, p .unlisted-29, p .plmns, p .purged, p .unlisted-57, p .mme-name, p .sgsn-name, p .unlisted-194, p .imei, p .unlisted-220)
 
 -- a slot of 01: of the MME or of the SGSN
 pub data Node : Slot → Type 0 where

@@ -35,6 +35,7 @@ pub mod NewerTree
 pub mod NewerUnused
 pub mod NewerUse
 pub mod OptionLaws
+pub mod OrderLaws
 pub mod OutcomeLaws
 pub mod PassesLaws
 pub mod PlaceLaws
@@ -74,6 +75,7 @@ pub mod StandsIn
 pub mod StoreLaws
 pub mod Stripped
 pub mod TableLaws
+pub mod TableSaid
 pub mod TestLaws
 pub mod Totals
 pub mod UlrSizes

@@ -8,6 +8,10 @@ pub or-implies : (a b : Bool) → not a || b ≡ true → a ≡ true → b ≡ t
 or-implies true b e h = e
 or-implies false b e h = absurd (false≢true h)
 
+pub implies-or : (a b : Bool) → (a ≡ true → b ≡ true) → not a || b ≡ true
+implies-or true b h = h refl
+implies-or false b h = refl
+
 pub or-right : (a b : Bool) → b ≡ true → a || b ≡ true
 or-right true b e = refl
 or-right false b e = e
