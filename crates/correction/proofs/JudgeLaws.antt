@@ -13,7 +13,8 @@ use borrow.Author.Tests.{lt-ltb, le-ltb, eq-eqb, ne-eqb}
 use Rattle.wire.specs.Number.{numAt}
 use Rattle.paper.specs.Table.{valid, lookup, recordOf, changeOf}
 use Rattle.paper.specs.Correction.{frameHead, frameVersion, frameKind, frameImsi, frameSeen, frameValue, valueSize, valueRight, Corrected, accepted, refused, onRecord, corrected}
-use Rattle.paper.specs.Clerks.{cases, First, first, later}
+use Rattle.paper.specs.Clerks.{First, first, later}
+use Rattle.paper.proofs.CorrectionCases.{tests}
 use Rattle.paper.proofs.TableLaws.{valid-parts, lookup-inside}
 use Rattle.paper.proofs.CorrectionLaws.{first-refused, comes-to-record, on-record-accepted}
 use Rattle.correction.specs.declared.judge.Answer.{Answer}
@@ -26,16 +27,16 @@ or-right : (a b : Bool) → b ≡ true → a || b ≡ true
 or-right true b e = refl
 or-right false b e = e
 
-refuses : (t f : List ℕ) (a : Answer) → numberOf a ≢ 0 → First t f cases (numberOf a) → Judges (Refused a) t f (corrected t f)
+refuses : (t f : List ℕ) (a : Answer) → numberOf a ≢ 0 → First t f tests (numberOf a) → Judges (Refused a) t f (corrected t f)
 refuses t f a z h = record { outcome = sym (first-refused t f (numberOf a) z h); ready = tt }
 
 pub table-not-valid : (t f : List ℕ) → valid t ≡ false → Judges (Refused TableNotValid) t f (corrected t f)
-unfolding cases
+unfolding tests
 table-not-valid t f e = refuses t f TableNotValid (λ q. absurd (omega arith)) (first (ap not e))
 
 module _ (t f : List ℕ) (right : valid t ≡ true) where
   length-wrong : ltb (length f) frameHead || not (eqb (numAt 2 f 0) (length f)) ≡ true → Judges (Refused LengthWrong) t f (corrected t f)
-  unfolding cases
+  unfolding tests
   length-wrong e = refuses t f LengthWrong (λ q. absurd (omega arith)) (later (ap not right) (first e))
 
   pub too-short : length f < frameHead → Judges (Refused LengthWrong) t f (corrected t f)
@@ -49,7 +50,7 @@ module _ (t f : List ℕ) (right : valid t ≡ true) where
     length-right = rw (le-ltb (length f) frameHead long, eq-eqb (numAt 2 f 0) (length f) whole)
 
     pub version-differs : (getD f 2 0 ≡ frameVersion → ⊥) → Judges (Refused VersionWrong) t f (corrected t f)
-    unfolding cases
+    unfolding tests
     version-differs h =
         refuses t f VersionWrong (λ q. absurd (omega arith)) (later (ap not right) (later length-right (first (ap not (ne-eqb (getD f 2 0) frameVersion h)))))
 
@@ -58,7 +59,7 @@ module _ (t f : List ℕ) (right : valid t ≡ true) where
       version-right = ap not (eq-eqb (getD f 2 0) frameVersion version)
 
       pub kind-unknown : valueSize (frameKind f) ≡ 0 → Judges (Refused KindUnknown) t f (corrected t f)
-      unfolding cases
+      unfolding tests
       kind-unknown e =
           refuses t f KindUnknown (λ q. absurd (omega arith)) (later (ap not right) (later length-right (later version-right (first (eq-eqb (valueSize (frameKind f)) 0 e)))))
 
@@ -67,7 +68,7 @@ module _ (t f : List ℕ) (right : valid t ≡ true) where
         kind-right = ne-eqb (valueSize (frameKind f)) 0 kind
 
         pub size-differs : (length f ≡ frameHead + valueSize (frameKind f) → ⊥) → Judges (Refused LengthWrongForKind) t f (corrected t f)
-        unfolding cases
+        unfolding tests
         size-differs h =
             refuses t f LengthWrongForKind (λ q. absurd (omega arith))
             (later (ap not right) (later length-right (later version-right (later kind-right (first (ap not (ne-eqb (length f) (frameHead + valueSize (frameKind f)) h)))))))
@@ -77,7 +78,7 @@ module _ (t f : List ℕ) (right : valid t ≡ true) where
           size-right = eq-eqb (length f) (frameHead + valueSize (frameKind f)) sized
 
           pub value-not-valid : valueRight (frameKind f) (frameValue f) ≡ false → Judges (Refused ValueNotValid) t f (corrected t f)
-          unfolding cases
+          unfolding tests
           value-not-valid e =
               refuses t f ValueNotValid (λ q. absurd (omega arith))
               (later (ap not right) (later length-right (later version-right (later kind-right (later (ap not size-right) (first (ap not e)))))))

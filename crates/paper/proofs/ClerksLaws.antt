@@ -37,7 +37,6 @@ module _ {A : Type 0} (change : A → ℕ) where
 
   -- each accepted correction counts one, modulo 2^32
   pub course-number : {a b : A} {n : ℕ} → Course change a n b → change b % 2 ^ 32 ≡ (change a + n) % 2 ^ 32
-  unfolding nextChange
   course-number stays = omega arith
   course-number (counts e c) = let h = course-number c in omega arith
   course-number (passes e c) = let h = course-number c in let k = ap change e in omega arith
@@ -57,6 +56,7 @@ module _ {A : Type 0} (change : A → ℕ) where
 -- a course of a record is one of any part of it that shows the change number
 pub course-map : {A B : Type 0} (change : A → ℕ) (shown : B → ℕ) (g : A → B) → ((a : A) → shown (g a) ≡ change a)
     → {a b : A} {n : ℕ} → Course change a n b → Course shown (g a) n (g b)
+unfolding nextChange
 course-map change shown g h stays = stays
 course-map change shown g h (counts {a = a} {b = b} e c) = counts (h b ∙ e ∙ ap nextChange (sym (h a))) (course-map change shown g h c)
 course-map change shown g h (passes e c) = passes (ap g e) (course-map change shown g h c)
@@ -66,7 +66,7 @@ course-map change shown g h (passes e c) = passes (ap g e) (course-map change sh
 module _ (imsi t f : List ℕ) where
   -- accepted, and of this record
   own-step : accepts imsi t f ≡ true → changeOf (recordWith imsi (corrected t f .table)) ≡ nextChange (changeOf (recordWith imsi t))
-  unfolding accepts recordWith recordAtPlace
+  unfolding accepts recordWith recordAtPlace recordOf nextChange
   own-step e =
       let p = passed t f (eqb-true _ _ (and-true-left (eqb (corrected t f .number) 0) (same (frameImsi f) imsi) e)) in
       let named : frameImsi f ≡ imsi = same-true (frameImsi f) imsi (and-true-right (eqb (corrected t f .number) 0) (same (frameImsi f) imsi) e) in
@@ -79,7 +79,7 @@ module _ (imsi t f : List ℕ) where
 
   -- accepted, and of another record
   other-step : Passed t f → (frameImsi f ≡ imsi → ⊥) → recordWith imsi (corrected t f .table) ≡ recordWith imsi t
-  unfolding recordWith recordAtPlace
+  unfolding recordWith recordAtPlace recordOf
   other-step p ne = ap (λ (o : Option ℕ). recordAtPlace o (corrected t f .table)) (corrected-lookup t f p imsi) ∙ go (lookup imsi t) refl
     where
       go : (o : Option ℕ) → lookup imsi t ≡ o → recordAtPlace o (corrected t f .table) ≡ recordAtPlace o t
@@ -100,6 +100,7 @@ module _ (imsi t f : List ℕ) where
       go true q true h = let z : true ≡ false = rw (q, h) at e in let y : _≡_ {A = ℕ} 0 1 = cc in absurd (omega arith)
 
   pub correction-course : Course changeOf (recordWith imsi t) (cond (accepts imsi t f) 1 0) (recordWith imsi (corrected t f .table))
+  unfolding nextChange
   correction-course = go (accepts imsi t f) refl
     where
       go : (b : Bool) → accepts imsi t f ≡ b → Course changeOf (recordWith imsi t) (cond b 1 0) (recordWith imsi (corrected t f .table))

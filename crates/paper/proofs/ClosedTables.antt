@@ -10,6 +10,8 @@ use Rattle.wire.specs.Number.{be, numAt}
 use Rattle.wire.specs.Put.{put}
 use Rattle.wire.specs.Stretch.{same, allIn}
 use Rattle.paper.specs.Table.{counted, imsiRight, twoBits, plmnCountRight, plmnsRight, nameRight, purgedRight, imeiRight, rules, allHold, recordRight, recordOf, countOf, imsiNumber, allBelow, ascends, headerRight, valid, seek, lookup}
+use Rattle.paper.specs.TableSaid.{TableSaid}
+use Rattle.paper.proofs.TableSaid.{table-said}
 
 -- an IMSI of six digits, of which the last is `d`
 abbrev imsi : ℕ → List ℕ
@@ -57,6 +59,16 @@ empty-valid = refl
 ascending-valid : judged (table 2 (bare 0 ++ bare 1)) ≡ true
 unfolding judged
 ascending-valid = refl
+
+-- "ascending by bytes 0–15", of which byte 0 is the digit count: 999999 stands before 000000000000000
+shorter-first : judged (table 2 ((6 ∷ (replicate 6 57 ++ replicate 249 0)) ++ (15 ∷ (replicate 15 48 ++ replicate 240 0)))) ≡ true
+unfolding judged
+shorter-first = refl
+
+-- and what 01 says of a table holds of such a one, in its own words
+ascending-said : TableSaid (table 2 (bare 0 ++ bare 1))
+unfolding judged
+ascending-said = table-said (table 2 (bare 0 ++ bare 1)) .0 ascending-valid
 
 equal-not-valid : judged (table 2 (bare 1 ++ bare 1)) ≡ false
 unfolding judged
@@ -130,6 +142,7 @@ wrongEdits =
     (edit 6 (47 ∷ []) ∷ []) ∷
     (edit 6 (58 ∷ []) ∷ []) ∷
     (edit 7 (48 ∷ []) ∷ []) ∷
+    (edit 15 (48 ∷ []) ∷ []) ∷
     (edit 20 (4 ∷ []) ∷ []) ∷
     (edit 21 (1 ∷ []) ∷ []) ∷
     (edit 23 (1 ∷ []) ∷ []) ∷
@@ -149,13 +162,18 @@ wrongEdits =
     (edit 64 (1 ∷ 0x20 ∷ []) ∷ []) ∷
     (edit 64 (1 ∷ 0x7F ∷ []) ∷ []) ∷
     (edit 65 (1 ∷ []) ∷ []) ∷
+    (edit 128 (97 ∷ []) ∷ []) ∷
     (edit 129 (65 ∷ replicate 64 97) ∷ []) ∷
     (edit 129 (1 ∷ 0x20 ∷ []) ∷ []) ∷
+    (edit 129 (1 ∷ 0x7F ∷ []) ∷ []) ∷
+    (edit 130 (1 ∷ []) ∷ []) ∷
     (edit 193 (1 ∷ []) ∷ []) ∷
     (edit 194 (1 ∷ []) ∷ []) ∷
     (edit 195 (1 ∷ []) ∷ []) ∷
     (edit 204 (13 ∷ replicate 13 48) ∷ []) ∷
     (edit 204 (16 ∷ replicate 16 48) ∷ []) ∷
+    (edit 204 (14 ∷ 47 ∷ replicate 13 48) ∷ []) ∷
+    (edit 204 (15 ∷ 58 ∷ replicate 14 48) ∷ []) ∷
     (edit 204 (14 ∷ replicate 15 48) ∷ []) ∷
     (edit 205 (48 ∷ []) ∷ []) ∷
     (edit 220 (1 ∷ []) ∷ []) ∷

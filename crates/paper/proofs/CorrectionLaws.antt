@@ -16,13 +16,13 @@ use Rattle.wire.specs.Put.{put}
 use Rattle.wire.proofs.ListLaws.{and-true-left, and-true-right}
 use Rattle.wire.proofs.PutLaws.{put-before, put-after, read-back}
 use Rattle.paper.specs.Layout.{recordSize, changeAt, subscriptionAt, restrictionAt, plmnCountAt, plmnsAt, ambrAt}
-use Rattle.paper.specs.Table.{recordRight, recordAt, recordOf, imsiOf, changeOf, valid, lookup}
+use Rattle.paper.specs.Table.{recordRight, recordAt, recordOf, countOf, imsiOf, changeOf, valid, lookup}
 use Rattle.paper.specs.Correction.{frameHead, frameVersion, frameKind, frameImsi, frameSeen, frameValue, valueSize, valueRight, storeValue, nextChange, accepted, refused, onRecord, corrected}
-use Rattle.paper.specs.Clerks.{recordAtPlace, recordWith, isNone, cases, First, noneHolds, changeField, fieldsOfKind, heldIn, liesIn, Alters}
+use Rattle.paper.specs.Clerks.{recordAtPlace, recordWith, isNone, First, noneHolds, withValue, changeField, fieldsOfKind, heldIn, liesIn, Alters}
 use Rattle.paper.proofs.TableLaws.{Valid, valid-parts, valid-whole, length-record, lookup-some, lookup-inside, Replaced, replaced-then, replaced-store, replaced-valid, replaced-lookup, imsi-put}
 use Rattle.paper.proofs.FieldLaws.{free-right, change-free}
-use Rattle.paper.proofs.StoreLaws.{Corrects, subscription, restriction, plmns, ambr, corrects, withValue, replaced-value, value-right, imsi-value}
-use Rattle.paper.proofs.CorrectionCases.{corrected-cases, refused-alters-nothing}
+use Rattle.paper.proofs.StoreLaws.{Corrects, subscription, restriction, plmns, ambr, corrects, replaced-value, value-right, imsi-value}
+use Rattle.paper.proofs.CorrectionCases.{tests, first-number, corrected-number, refused-alters-nothing, none-holds}
 use Rattle.paper.proofs.TestLaws.{or-false-left, or-false-right}
 use Rattle.paper.proofs.CorrectionFields.{putFields, sizeOf, Ascend, length-putFields, held-putFields, byte-putFields, held-behind, outside}
 
@@ -128,9 +128,9 @@ some-place none e = absurd (true≢false e)
 some-place (some i) e = (i, refl)
 
 pub passed : (t f : List ℕ) → corrected t f .number ≡ 0 → Passed t f
-unfolding noneHolds cases recordWith recordAtPlace
+unfolding noneHolds tests recordWith recordAtPlace
 passed t f e =
-    let n₀ = corrected-cases t f .success .0 e in
+    let n₀ = none-holds t f e in
     let n₁ = and-true-right (not (not (valid t))) _ n₀ in
     let short = ltb (length f) frameHead || not (eqb (numAt 2 f 0) (length f)) in
     let n₂ = and-true-right (not short) _ n₁ in
@@ -215,11 +215,14 @@ module _ (t f : List ℕ) (p : Passed t f) where
       valid-whole (corrected t f .table) (replaced-valid (p .place) renewed t (corrected t f .table) corrected-replaced renewed-imsi table-valid right)
 
   pub passed-alters : Alters t f (corrected t f .table) (p .place)
+  unfolding recordOf countOf nextChange
   passed-alters =
       let z = corrected-replaced in
       let s = next-small (changeOf named) in
+      let k = lookup-some (frameImsi f) t (p .place) (p .found) in
       record {
-        named = p .found;
+        inside = k .0;
+        named = k .1;
         seen = p .seen;
         counted = ap changeOf (z .own) ∙ record-change (frameKind f) next (frameValue f) named (p .kind) value-sized named-long s ∙ ap nextChange (p .seen);
         stored = ap (heldIn (fieldsOfKind (frameKind f))) (z .own) ∙ record-held (frameKind f) next (frameValue f) named (p .kind) value-sized named-long s;
@@ -234,11 +237,11 @@ module _ (t f : List ℕ) (p : Passed t f) where
 pub accepted-alters : (t f : List ℕ) → corrected t f .number ≡ 0 → (i : ℕ) × Alters t f (corrected t f .table) i
 accepted-alters t f e = let p = passed t f e in (p .place, passed-alters t f p)
 
--- the first case that holds says what a correction comes to
-pub first-refused : (t f : List ℕ) (n : ℕ) → n ≢ 0 → First t f cases n → corrected t f ≡ refused n t
+-- the first test that holds says what a correction comes to
+pub first-refused : (t f : List ℕ) (n : ℕ) → n ≢ 0 → First t f tests n → corrected t f ≡ refused n t
 unfolding refused
 first-refused t f n z h =
-    let e : corrected t f .number ≡ n = corrected-cases t f .refused n z .1 h in
+    let e : corrected t f .number ≡ n = corrected-number t f ∙ first-number h in
     let s : corrected t f .table ≡ t = refused-alters-nothing t f (λ q. z (sym e ∙ q)) in
     λ j. record { number = e j; table = s j }
 

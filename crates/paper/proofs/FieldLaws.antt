@@ -9,7 +9,7 @@ use native.Mathlib.Numerals.{one-add}
 use native.Mathlib.Omega.{arith}
 use lib.Dec.{leb, ltb, eqb}
 use lib.ListN.{length, take, drop, getD, replicate, length-append, length-drop, length-replicate}
-use lib.Seq.{take-at, drop-at, drop-drop, getD-take, length-take-le}
+use lib.Seq.{take-at, take-length, drop-at, drop-drop, getD-take, length-take-le}
 use borrow.Author.Tests.{le-leb, lt-ltb, leb-true, ltb-true}
 use Rattle.wire.specs.Put.{part, put}
 use Rattle.wire.specs.Stretch.{nameBytes, digits, zeros}
@@ -32,12 +32,17 @@ allHold-at (x ∷ xs) r d (suc k) e h = allHold-at xs r d k (and-true-right (x .
 pub record Right (r : List ℕ) : Type 0 where
   pub imsi : imsiRight r ≡ true
   pub subscription : twoBits subscriptionAt r ≡ true
+  pub unlisted-21 : zeros (part 21 3 r) ≡ true
   pub plmn-count : plmnCountRight r ≡ true
+  pub unlisted-29 : zeros (part 29 3 r) ≡ true
   pub plmns : plmnsRight r ≡ true
   pub purged : purgedRight r ≡ true
+  pub unlisted-57 : zeros (part 57 7 r) ≡ true
   pub mme-name : nameRight mmeAt r ≡ true
   pub sgsn-name : nameRight sgsnAt r ≡ true
+  pub unlisted-194 : zeros (part 194 2 r) ≡ true
   pub imei : imeiRight r ≡ true
+  pub unlisted-220 : zeros (part 220 36 r) ≡ true
 
 pub right-parts : (r : List ℕ) → recordRight r ≡ true → Right r
 unfolding recordRight rules
@@ -45,16 +50,26 @@ right-parts r e =
     record {
       imsi = rule 0 (omega arith);
       subscription = rule 1 (omega arith);
+      unlisted-21 = rule 2 (omega arith);
       plmn-count = rule 3 (omega arith);
+      unlisted-29 = rule 4 (omega arith);
       plmns = rule 5 (omega arith);
       purged = rule 6 (omega arith);
+      unlisted-57 = rule 7 (omega arith);
       mme-name = rule 8 (omega arith);
       sgsn-name = rule 9 (omega arith);
+      unlisted-194 = rule 10 (omega arith);
       imei = rule 11 (omega arith);
+      unlisted-220 = rule 12 (omega arith);
     }
   where
     rule : (k : ℕ) → k < 13 → (getD rules k (record { at = 0; holds = imsiRight })) .holds r ≡ true
     rule k h = allHold-at rules r (record { at = 0; holds = imsiRight }) k e h
+
+pub right-whole : (r : List ℕ) → Right r → recordRight r ≡ true
+unfolding recordRight rules allHold
+right-whole r p =
+    rw (p .imsi, p .subscription, p .unlisted-21, p .plmn-count, p .unlisted-29, p .plmns, p .purged, p .unlisted-57, p .mme-name, p .sgsn-name, p .unlisted-194, p .imei, p .unlisted-220)
 
 -- a slot of 01: of the MME or of the SGSN
 pub data Node : Slot → Type 0 where
@@ -140,27 +155,53 @@ subscription-right v r e h small right =
     right-again (range subscriptionAt 1 ∷ []) r (put subscriptionAt v r) (differ-put subscriptionAt 1 v r e (omega arith)) right
     (rw (first-put subscriptionAt v r (omega arith) (omega arith), small))
 
-pub plmns-right : (v r : List ℕ) → length v ≡ 25 → length r ≡ recordSize → leb (getD v 0 0) mostPlmns && zeros (drop (1 + plmnSize * getD v 0 0) v) ≡ true → recordRight r ≡ true
-    → recordRight (put plmnsAt (drop 1 v) (put plmnCountAt (take 1 v) r)) ≡ true
-unfolding touched watched allApart apartFrom apart allHold plmnCountRight plmnsRight
-plmns-right v r e h good right =
-    let r₁ = put plmnCountAt (take 1 v) r in
-    let r₂ = put plmnsAt (drop 1 v) r₁ in
-    let n₁ : length (take 1 v) ≡ 1 = length-take-le 1 v (omega arith) in
-    let n₂ : length (drop 1 v) ≡ 24 = simp length-drop (omega arith) in
-    let m₁ : length r₁ ≡ recordSize = length-put plmnCountAt (take 1 v) r (omega arith) ∙ h in
-    let c = getD v 0 0 in
-    let few : leb c mostPlmns ≡ true = and-true-left (leb c mostPlmns) _ good in
-    let small : c ≤ mostPlmns = leb-true c mostPlmns few in
-    let count : getD r₂ plmnCountAt 0 ≡ c =
-    put-before plmnsAt plmnCountAt (drop 1 v) r₁ (omega arith) (omega arith) ∙ first-put plmnCountAt (take 1 v) r (omega arith) (omega arith) ∙ getD-take 1 v 0 0 (omega arith) in
-    let field : part plmnsAt 24 r₂ ≡ drop 1 v = rw n₂ at (part-put plmnsAt (drop 1 v) r₁ (omega arith)) in
-    let k = plmnSize * c in
-    let unused : part (plmnsAt + k) (24 - k) r₂ ≡ take (24 - k) (drop (1 + k) v) =
-    sym (part-part plmnsAt 24 k (24 - k) r₂ (omega arith)) ∙ ap (part k (24 - k)) field ∙ ap (take (24 - k)) (drop-drop k 1 v) in
-    let z : zeros (take (24 - k) (drop (1 + k) v)) ≡ true = allIn-take 0 0 (24 - k) (drop (1 + k) v) (and-true-right (leb c mostPlmns) _ good) in
-    let differ = differ-then (range plmnCountAt 1) (range plmnsAt 24 ∷ []) r r₁ r₂ (differ-put plmnCountAt 1 (take 1 v) r n₁ (omega arith)) (differ-put plmnsAt 24 (drop 1 v) r₁ n₂ (omega arith)) in
-    right-again (range plmnCountAt 1 ∷ range plmnsAt 24 ∷ []) r r₂ differ right (rw (count, few, unused, z))
+-- a count of PLMNs and their 24 bytes, stored: what the rules of the two fields look at
+module _ (v r : List ℕ) (sized : length v ≡ 25) (long : length r ≡ recordSize) where
+  abbrev counts : List ℕ
+  counts = put plmnCountAt (take 1 v) r
+
+  abbrev stored : List ℕ
+  stored = put plmnsAt (drop 1 v) counts
+
+  count-size : length (take 1 v) ≡ 1
+  count-size = length-take-le 1 v (omega arith)
+
+  plmns-size : length (drop 1 v) ≡ 24
+  plmns-size = simp length-drop (omega arith)
+
+  counts-long : length counts ≡ recordSize
+  counts-long = let n = count-size in length-put plmnCountAt (take 1 v) r (omega arith) ∙ long
+
+  pub count-stored : getD stored plmnCountAt 0 ≡ getD v 0 0
+  count-stored =
+      let n = count-size in
+      let m = counts-long in
+      put-before plmnsAt plmnCountAt (drop 1 v) counts (omega arith) (omega arith) ∙ first-put plmnCountAt (take 1 v) r (omega arith) (omega arith) ∙ getD-take 1 v 0 0 (omega arith)
+
+  -- the bytes behind the counted PLMNs
+  pub unused-stored : (k : ℕ) → k ≤ 24 → part (plmnsAt + k) (24 - k) stored ≡ drop (1 + k) v
+  unused-stored k h =
+      let n = plmns-size in
+      let m = counts-long in
+      let field : part plmnsAt 24 stored ≡ drop 1 v = rw n at (part-put plmnsAt (drop 1 v) counts (omega arith)) in
+      let size : length (drop (1 + k) v) ≡ 24 - k = simp length-drop (omega arith) in
+      sym (part-part plmnsAt 24 k (24 - k) stored (omega arith))
+      ∙ ap (part k (24 - k)) field
+      ∙ ap (take (24 - k)) (drop-drop k 1 v)
+      ∙ ap (λ (m : ℕ). take m (drop (1 + k) v)) (sym size)
+      ∙ take-length (drop (1 + k) v)
+
+  pub plmns-right : leb (getD v 0 0) mostPlmns && zeros (drop (1 + plmnSize * getD v 0 0) v) ≡ true → recordRight r ≡ true → recordRight stored ≡ true
+  unfolding touched watched allApart apartFrom apart allHold plmnCountRight plmnsRight
+  plmns-right good right =
+      let m = counts-long in
+      let c = getD v 0 0 in
+      let few : leb c mostPlmns ≡ true = and-true-left (leb c mostPlmns) _ good in
+      let small : c ≤ mostPlmns = leb-true c mostPlmns few in
+      let z : zeros (drop (1 + plmnSize * c) v) ≡ true = and-true-right (leb c mostPlmns) _ good in
+      let differ =
+      differ-then (range plmnCountAt 1) (range plmnsAt 24 ∷ []) r counts stored (differ-put plmnCountAt 1 (take 1 v) r count-size (omega arith)) (differ-put plmnsAt 24 (drop 1 v) counts plmns-size (omega arith)) in
+      right-again (range plmnCountAt 1 ∷ range plmnsAt 24 ∷ []) r stored differ right (rw (count-stored, few, unused-stored (plmnSize * c) (omega arith), z))
 
 -- ---- the purge bits
 

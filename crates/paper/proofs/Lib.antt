@@ -11,6 +11,7 @@ pub mod CorrectionCases
 mod CorrectionExamples
 pub mod CorrectionFields
 pub mod CorrectionLaws
+pub mod CorrectionSaid
 pub mod Cover
 mod DeskExamples
 pub mod DeskLaws
@@ -35,6 +36,7 @@ pub mod NewerTree
 pub mod NewerUnused
 pub mod NewerUse
 pub mod OptionLaws
+pub mod OrderLaws
 pub mod OutcomeLaws
 pub mod PassesLaws
 pub mod PlaceLaws
@@ -77,9 +79,11 @@ pub mod StandsIn
 pub mod StoreLaws
 pub mod Stripped
 pub mod TableLaws
+pub mod TableSaid
 pub mod TestLaws
 pub mod Totals
 pub mod UlrSizes
+pub mod ValueLaws
 pub mod ViewLaws
 pub mod WidenedView
 pub mod WrittenLaws

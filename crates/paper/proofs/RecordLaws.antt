@@ -51,7 +51,7 @@ SameOn (x ∷ xs) r r′ = (cut x r′ ≡ cut x r) × SameOn xs r r′
 abbrev pub DifferIn : List Range → List ℕ → List ℕ → Type 0
 DifferIn cs r r′ = (x : Range) → apartFrom cs x ≡ true → cut x r′ ≡ cut x r
 
-or-cases : (a b : Bool) → a || b ≡ true → (a ≡ true) ⊎ (b ≡ true)
+pub or-cases : (a b : Bool) → a || b ≡ true → (a ≡ true) ⊎ (b ≡ true)
 or-cases true b e = inl refl
 or-cases false b e = inr e
 

@@ -1,7 +1,7 @@
 -- Each store of 01 replaces one record and keeps the table valid: the change number, the values of a correction, a node, its purge bit, the IMEI.
 -- Assumes nothing.
 use mathlib.Core.Path.{_≡_, refl, sym, _∙_, subst}
-use mathlib.Core.Bool.{Bool, true, false, cond, _||_, false≢true}
+use mathlib.Core.Bool.{Bool, true, false, _||_, false≢true}
 use mathlib.Core.List.{List, [], _∷_}
 use Prim.Native.Nat.{ℕ, _+_, _≤_, _<_}
 use native.Mathlib.Omega.{arith}
@@ -17,6 +17,7 @@ use Rattle.paper.specs.Layout.{recordSize, imsiSize, changeAt, subscript
 use Rattle.paper.specs.Table.{recordRight, recordAt, recordOf, countOf, imsiOf, valid, Slot, store}
 use Rattle.paper.specs.Fields.{filled, withoutBit, purgedOf, storeNode, storePurged, storeImei}
 use Rattle.paper.specs.Correction.{valueSize, valueRight, storeValue}
+use Rattle.paper.specs.Clerks.{withValue}
 use Rattle.paper.proofs.FieldLaws.{Node, slot-inside, free-right, change-free, restriction-free, ambr-free, length-filled, subscription-right, plmns-right, purged-right, withNode, node-right, imei-right, imei-size}
 use Rattle.paper.proofs.TableLaws.{valid-parts, valid-whole, record-inside, length-record, Replaced, replaced-store, replaced-more, replaced-valid, imsi-put}
 
@@ -119,14 +120,6 @@ corrects kind e = go-1 (eqb kind 1) refl
     go-1 : (b : Bool) → eqb kind 1 ≡ b → Corrects kind
     go-1 true q = named 1 subscription q
     go-1 false q = go-2 q (eqb kind 2) refl
-
--- the record with the value of the kind stored
-unfoldable pub withValue : ℕ → List ℕ → List ℕ → List ℕ
-withValue kind v r =
-    cond (eqb kind 1) (put subscriptionAt v r)
-    (cond (eqb kind 2) (put restrictionAt v r)
-    (cond (eqb kind 3) (put plmnsAt (drop 1 v) (put plmnCountAt (take 1 v) r))
-    (put ambrAt v r)))
 
 pub replaced-value : (kind i : ℕ) (v t : List ℕ) → Corrects kind → recordAt i + recordSize ≤ length t → length v ≡ valueSize kind
     → Replaced i (withValue kind v (recordOf t i)) t (storeValue kind i v t)

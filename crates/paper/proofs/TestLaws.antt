@@ -8,6 +8,10 @@ pub or-implies : (a b : Bool) → not a || b ≡ true → a ≡ true → b ≡ t
 or-implies true b e h = e
 or-implies false b e h = absurd (false≢true h)
 
+pub implies-or : (a b : Bool) → (a ≡ true → b ≡ true) → not a || b ≡ true
+implies-or true b h = h refl
+implies-or false b h = refl
+
 pub or-right : (a b : Bool) → b ≡ true → a || b ≡ true
 or-right true b e = refl
 or-right false b e = e
@@ -23,6 +27,13 @@ or-false-left true b e = absurd (false≢true (sym e))
 pub or-false-right : (a b : Bool) → a || b ≡ false → b ≡ false
 or-false-right false b e = e
 or-false-right true b e = absurd (false≢true (sym e))
+
+-- ---- two tests
+
+pub same-when-true : (a b : Bool) → (a ≡ true → b ≡ true) → (b ≡ true → a ≡ true) → a ≡ b
+same-when-true true b p q = sym (p refl)
+same-when-true false true p q = q refl
+same-when-true false false p q = refl
 
 -- ---- a choice
 

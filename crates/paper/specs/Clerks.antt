@@ -2,19 +2,18 @@
 -- and several clerks who correct one table in turn.
 -- Assumes nothing.
 use mathlib.Core.Path.{_≡_}
-use mathlib.Core.Logic.{_↔_, _≢_}
+use mathlib.Core.Logic.{_↔_, _≢_, _⊎_}
 use mathlib.Core.Bool.{Bool, true, false, cond, _&&_, _||_, not}
 use mathlib.Core.Option.{Option, none, some}
 use mathlib.Core.List.{List, [], _∷_, _++_}
-use Prim.Native.Nat.{ℕ, suc, _+_}
-use lib.ListN.{length, take, getD}
+use Prim.Native.Nat.{ℕ, suc, _+_, _*_, _%_, _<_}
+use lib.ListN.{length, take, drop, getD, replicate}
 use lib.Dec.{leb, ltb, eqb}
 use Rattle.wire.specs.Number.{numAt}
-use Rattle.wire.specs.Put.{part}
+use Rattle.wire.specs.Put.{part, put}
 use Rattle.wire.specs.Stretch.{same}
-use Rattle.paper.specs.Layout.{tableHeader, changeAt, subscriptionAt, restrictionAt, plmnCountAt, plmnsAt, ambrAt}
-use Rattle.paper.specs.Table.{valid, lookup, recordOf, changeOf}
-use Rattle.paper.specs.Correction.{frameHead, frameVersion, frameKind, frameImsi, frameSeen, frameValue, valueSize, valueRight, nextChange, Corrected, corrected}
+use Rattle.paper.specs.Table.{recordRight, allBelow, valid, lookup, recordOf}
+use Rattle.paper.specs.Correction.{Corrected, corrected}
 
 -- ---- the cases of refusal
 
@@ -30,23 +29,44 @@ abbrev pub isNone : Option ℕ → Bool
 isNone none = true
 isNone (some i) = false
 
+-- the record `r` with the value `v` stored: "Kinds: 1 byte 20; 2 bytes 24–27; 3 byte 28 and 32–55 (25 bytes); 4 bytes 196–203"
+unfoldable pub withValue : ℕ → List ℕ → List ℕ → List ℕ
+withValue kind v r =
+    cond (eqb kind 1) (put 20 v r)
+    (cond (eqb kind 2) (put 24 v r)
+    (cond (eqb kind 3) (put 32 (drop 1 v) (put 28 (take 1 v) r))
+    (put 196 v r)))
+
+-- a right record: the IMSI 000000, and nothing else
+unfoldable pub plainRecord : List ℕ
+plainRecord = 6 ∷ (replicate 6 48 ++ replicate 249 0)
+
 -- a number of 01's list, and when its case holds of a table and a frame
 pub record Case : Type 0 where
   pub number : ℕ
   pub holds : List ℕ → List ℕ → Bool
 
+-- the frame is of this kind, and has a value of this many bytes behind its 24
+abbrev pub framed : ℕ → ℕ → List ℕ → Bool
+framed kind size f = eqb (getD f 3 0) kind && eqb (length f) (24 + size)
+
+-- the test holds of none of the places at which the records of a table begin: as many as bytes 6 and 7 say, 256 bytes each, from byte 8 on
+unfoldable pub noRecord : (ℕ → Bool) → List ℕ → Bool
+noRecord test t = allBelow (λ i. not (test (8 + 256 * i))) (numAt 2 t 6)
+
+-- "Frame: whole length (2), version 1, kind, IMSI (16, as stored), change number seen (4), value."
 -- "4 table; 11 under 24 bytes or length field wrong; 12 version; 13 kind; 14 length wrong for the kind; 15 value not valid in a table;
 -- 16 no such IMSI; 17 change number differs."
 unfoldable pub cases : List Case
 cases =
     record { number = 4; holds = λ t f. not (valid t) } ∷
-    record { number = 11; holds = λ t f. ltb (length f) frameHead || not (eqb (numAt 2 f 0) (length f)) } ∷
-    record { number = 12; holds = λ t f. not (eqb (getD f 2 0) frameVersion) } ∷
-    record { number = 13; holds = λ t f. eqb (valueSize (frameKind f)) 0 } ∷
-    record { number = 14; holds = λ t f. not (eqb (length f) (frameHead + valueSize (frameKind f))) } ∷
-    record { number = 15; holds = λ t f. not (valueRight (frameKind f) (frameValue f)) } ∷
-    record { number = 16; holds = λ t f. isNone (lookup (frameImsi f) t) } ∷
-    record { number = 17; holds = λ t f. not (eqb (changeOf (recordWith (frameImsi f) t)) (frameSeen f)) } ∷
+    record { number = 11; holds = λ t f. ltb (length f) 24 || not (eqb (numAt 2 f 0) (length f)) } ∷
+    record { number = 12; holds = λ t f. not (eqb (getD f 2 0) 1) } ∷
+    record { number = 13; holds = λ t f. not (eqb (getD f 3 0) 1 || (eqb (getD f 3 0) 2 || (eqb (getD f 3 0) 3 || eqb (getD f 3 0) 4))) } ∷
+    record { number = 14; holds = λ t f. not (framed 1 1 f || (framed 2 4 f || (framed 3 25 f || framed 4 8 f))) } ∷
+    record { number = 15; holds = λ t f. not (recordRight (withValue (getD f 3 0) (drop 24 f) plainRecord)) } ∷
+    record { number = 16; holds = λ t f. noRecord (λ at. same (part at 16 t) (part 4 16 f)) t } ∷
+    record { number = 17; holds = λ t f. noRecord (λ at. same (part at 16 t) (part 4 16 f) && eqb (numAt 4 t (at + 16)) (numAt 4 f 20)) t } ∷
     []
 
 -- `First t f cs n`: of the cases `cs` the first that holds of the table and the frame is the one numbered `n`
@@ -66,6 +86,13 @@ pub record FirstThatHolds (t f : List ℕ) (x : Corrected) : Type 0 where
   pub success : (x .number ≡ 0) ↔ (noneHolds t f cases ≡ true)
   pub unchanged : x .number ≢ 0 → x .table ≡ t
 
+-- "15 value not valid in a table": the value that a frame has behind byte 23, of the kind in byte 3, is refused for what it would do to any right record.
+-- Number 15 says that it breaks a rule of the table wherever it is stored; the numbers behind 15, and success, that it breaks none.
+pub record ValueJudged (f : List ℕ) (x : Corrected) : Type 0 where
+  pub breaks : x .number ≡ 15 → (r : List ℕ) → length r ≡ 256 → recordRight r ≡ true → recordRight (withValue (getD f 3 0) (drop 24 f) r) ≡ false
+  pub keeps : (x .number ≡ 0) ⊎ ((x .number ≡ 16) ⊎ (x .number ≡ 17)) → (r : List ℕ) → length r ≡ 256 → recordRight r ≡ true
+      → recordRight (withValue (getD f 3 0) (drop 24 f) r) ≡ true
+
 -- ---- what an accepted correction alters
 
 -- bytes of a record: the first, and how many
@@ -76,16 +103,17 @@ pub record Field : Type 0 where
 abbrev pub field : ℕ → ℕ → Field
 field at size = record { at = at; size = size }
 
+-- "16–19: change number"
 abbrev pub changeField : Field
-changeField = field changeAt 4
+changeField = field 16 4
 
 -- "Kinds: 1 byte 20; 2 bytes 24–27; 3 byte 28 and 32–55 (25 bytes); 4 bytes 196–203"
 unfoldable pub fieldsOfKind : ℕ → List Field
 fieldsOfKind kind =
-    cond (eqb kind 1) (field subscriptionAt 1 ∷ [])
-    (cond (eqb kind 2) (field restrictionAt 4 ∷ [])
-    (cond (eqb kind 3) (field plmnCountAt 1 ∷ field plmnsAt 24 ∷ [])
-    (cond (eqb kind 4) (field ambrAt 8 ∷ []) [])))
+    cond (eqb kind 1) (field 20 1 ∷ [])
+    (cond (eqb kind 2) (field 24 4 ∷ [])
+    (cond (eqb kind 3) (field 28 1 ∷ field 32 24 ∷ [])
+    (cond (eqb kind 4) (field 196 8 ∷ []) [])))
 
 -- what a record holds in these fields
 unfoldable pub heldIn : List Field → List ℕ → List ℕ
@@ -97,16 +125,21 @@ unfoldable pub liesIn : List Field → ℕ → Bool
 liesIn [] at = false
 liesIn (x ∷ xs) at = (leb (x .at) at && ltb at (x .at + x .size)) || liesIn xs at
 
+-- the bytes of record `i` of a table
+abbrev pub recordIn : List ℕ → ℕ → List ℕ
+recordIn t i = part (8 + 256 * i) 256 t
+
 -- `Alters t f u i`: the table `t` with the frame `f` accepted is `u`, and `i` is the record that the frame names
 pub record Alters (t f u : List ℕ) (i : ℕ) : Type 0 where
-  pub named : lookup (frameImsi f) t ≡ some i
-  pub seen : changeOf (recordOf t i) ≡ frameSeen f
-  pub counted : changeOf (recordOf u i) ≡ nextChange (frameSeen f)
-  pub stored : heldIn (fieldsOfKind (frameKind f)) (recordOf u i) ≡ frameValue f
+  pub inside : i < numAt 2 t 6
+  pub named : part 0 16 (recordIn t i) ≡ part 4 16 f
+  pub seen : numAt 4 (recordIn t i) 16 ≡ numAt 4 f 20
+  pub counted : numAt 4 (recordIn u i) 16 ≡ (numAt 4 f 20 + 1) % 4294967296
+  pub stored : heldIn (fieldsOfKind (getD f 3 0)) (recordIn u i) ≡ drop 24 f
   -- every other byte of this record, every other record, the header and the length are as they were
-  pub other-bytes : (at : ℕ) → liesIn (changeField ∷ fieldsOfKind (frameKind f)) at ≡ false → getD (recordOf u i) at 0 ≡ getD (recordOf t i) at 0
-  pub other-records : (j : ℕ) → j ≢ i → recordOf u j ≡ recordOf t j
-  pub header : take tableHeader u ≡ take tableHeader t
+  pub other-bytes : (at : ℕ) → liesIn (changeField ∷ fieldsOfKind (getD f 3 0)) at ≡ false → getD (recordIn u i) at 0 ≡ getD (recordIn t i) at 0
+  pub other-records : (j : ℕ) → j ≢ i → recordIn u j ≡ recordIn t j
+  pub header : take 8 u ≡ take 8 t
   pub size : length u ≡ length t
   -- and the table is valid again
   pub right : valid u ≡ true
@@ -120,7 +153,7 @@ run t (f ∷ fs) = run (corrected t f .table) fs
 
 -- the correction is accepted, and it is one of the record with this IMSI
 unfoldable pub accepts : List ℕ → List ℕ → List ℕ → Bool
-accepts imsi t f = eqb (corrected t f .number) 0 && same (frameImsi f) imsi
+accepts imsi t f = eqb (corrected t f .number) 0 && same (part 4 16 f) imsi
 
 -- how many of the corrections are accepted and are of the record with this IMSI
 unfoldable pub acceptedOf : List ℕ → List ℕ → List (List ℕ) → ℕ
@@ -132,7 +165,7 @@ acceptedOf imsi t (f ∷ fs) = cond (accepts imsi t f) 1 0 + acceptedOf imsi (co
 -- and by other steps, which leave what is looked at as it is.
 pub data Course {A : Type 0} (change : A → ℕ) : A → ℕ → A → Type 0 where
   stays : {a : A} → Course change a 0 a
-  counts : {a b c : A} {n : ℕ} → change b ≡ nextChange (change a) → Course change b n c → Course change a (suc n) c
+  counts : {a b c : A} {n : ℕ} → change b ≡ (change a + 1) % 4294967296 → Course change b n c → Course change a (suc n) c
   passes : {a b c : A} {n : ℕ} → b ≡ a → Course change b n c → Course change a n c
 
 -- what corrections alone alter of a record: its change number, and "bytes 20, 24–27, 28, 32–55, 196–203"
@@ -143,7 +176,7 @@ pub record Standing : Type 0 where
 unfoldable pub standingOf : List ℕ → Standing
 standingOf r =
     record {
-      change = changeOf r;
+      change = numAt 4 r 16;
       fields = heldIn (fieldsOfKind 1) r ++ (heldIn (fieldsOfKind 2) r ++ (heldIn (fieldsOfKind 3) r ++ heldIn (fieldsOfKind 4) r));
     }
 

@@ -24,6 +24,7 @@ pub mod Run
 pub mod Shown
 pub mod ShownIn
 pub mod Table
+pub mod TableSaid
 pub mod Untouched
 pub mod Widened
 pub mod Worked

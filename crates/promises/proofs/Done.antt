@@ -8,8 +8,8 @@ use Prim.Native.Nat.{ℕ, _≤_}
 use lib.ListN.{take}
 use borrow.Author.Tests.{eq-eqb}
 use Rattle.wire.specs.Number.{numAt}
-use Rattle.paper.specs.Clerks.{recordWith, FirstThatHolds, Alters}
-use Rattle.paper.specs.Correction.{frameImsi}
+use Rattle.wire.specs.Put.{part}
+use Rattle.paper.specs.Clerks.{recordWith, FirstThatHolds, ValueJudged, Alters}
 use Rattle.paper.specs.ItsRecord.{RequestRecord}
 use Rattle.paper.specs.Outcome.{Lent, Outcome}
 use Rattle.paper.specs.Procedures.{Entry, imsiField}
@@ -18,8 +18,8 @@ use Rattle.paper.specs.Read.{entriesIn}
 use Rattle.paper.specs.Refusals.{Said, number, result, experimental, said, refusals, First, NumberSaid}
 use Rattle.paper.specs.Table.{valid}
 use Rattle.paper.specs.Untouched.{OnlyItsRecord, NoRecord, NoByte}
-use Rattle.paper.proofs.CorrectionCases.{corrected-cases}
 use Rattle.paper.proofs.CorrectionLaws.{accepted-alters}
+use Rattle.paper.proofs.CorrectionSaid.{corrected-cases, value-of-correction}
 use Rattle.paper.proofs.OutcomeLaws.{outcome-size}
 use Rattle.paper.proofs.PromiseAnswer as paper-answer
 use Rattle.paper.proofs.PromiseNor as paper-nor
@@ -30,7 +30,7 @@ use Rattle.paper.proofs.PromiseRecord.{its-record}
 use Rattle.paper.proofs.PromiseRefusals as paper-refusals
 use Rattle.paper.proofs.PromiseUlr as paper-ulr
 use Rattle.paper.proofs.PromiseUntouched as paper-untouched
-use Rattle.promises.specs.Promises.{RequestRecordIs, UlrOnS6a, UlrOnS6d, UlrAnswered, PurPurges, NorNotifies, FirstThatApplies, NumberAsSaid, CorrectionCases, OnlyItsRecordTouched, AnswerShort, ResultTouchesNothing, ExperimentalTouchesNothing, NumberTouchesNothing, CorrectionAlters, CorrectionRecordIs}
+use Rattle.promises.specs.Promises.{RequestRecordIs, UlrOnS6a, UlrOnS6d, UlrAnswered, PurPurges, NorNotifies, FirstThatApplies, NumberAsSaid, CorrectionCases, CorrectionValue, OnlyItsRecordTouched, AnswerShort, ResultTouchesNothing, ExperimentalTouchesNothing, NumberTouchesNothing, CorrectionAlters, CorrectionRecordIs}
 use Rattle.promises.proofs.CallLaws.{of-call, of-correction}
 
 -- ---- what a promise reads of a request, its table before and its outcome
@@ -88,6 +88,9 @@ number-as-said = of-call (λ l o. NumberSaid o) paper-numbers.number-said
 pub correction-cases : CorrectionCases
 correction-cases = of-correction FirstThatHolds corrected-cases
 
+pub correction-value : CorrectionValue
+correction-value = of-correction (λ t f x. ValueJudged f x) value-of-correction
+
 -- ---- 8. Nothing else
 
 pub only-its-record : OnlyItsRecordTouched
@@ -109,4 +112,4 @@ pub correction-alters : CorrectionAlters
 correction-alters = of-correction (λ t f x. x .number ≡ 0 → (i : ℕ) × Alters t f (x .table) i) accepted-alters
 
 pub correction-record : CorrectionRecordIs
-correction-record c = its-record (frameImsi (c .frame)) (c .table)
+correction-record c = its-record (part 4 16 (c .frame)) (c .table)

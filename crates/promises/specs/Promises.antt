@@ -15,8 +15,7 @@ use Rattle.paper.specs.declared.Verdict.the-variants.{Base}
 use Rattle.paper.specs.declared.Visit.the-variants.{Clean}
 use Rattle.paper.specs.Attach.{tableAfter, attachAnswer, attachCancel, attachLent}
 use Rattle.paper.specs.Avp.{Avp, codeOf, vendorOf, flagsOf, avpOf, hasM}
-use Rattle.paper.specs.Clerks.{recordWith, standingOf, FirstThatHolds, Alters}
-use Rattle.paper.specs.Correction.{frameImsi, frameSeen}
+use Rattle.paper.specs.Clerks.{recordWith, standingOf, FirstThatHolds, ValueJudged, Alters}
 use Rattle.paper.specs.ItsRecord.{ItsRecord, RequestRecord}
 use Rattle.paper.specs.Layout.{messageHeader}
 use Rattle.paper.specs.Newer.{WidenedRequest, asking, Accepting, unsupportedOutcome, withAvps, Fits, strippedRequest}
@@ -29,7 +28,7 @@ use Rattle.paper.specs.Refusals.{Said, number, result, said, refusals, First, N
 use Rattle.paper.specs.Request.{viewOf}
 use Rattle.paper.specs.Run as Run
 use Rattle.paper.specs.Run.{Step, asks, corrects, Came, asked, put-right, acceptedIn}
-use Rattle.paper.specs.Table.{valid, lookup, changeOf}
+use Rattle.paper.specs.Table.{valid, lookup}
 use Rattle.paper.specs.Untouched.{OnlyItsRecord, NoRecord, NoByte}
 use Rattle.paper.specs.Widened.{OneAvp, Inserted, Clear}
 use Rattle.reader.specs.Message.{messageOf}
@@ -130,6 +129,10 @@ NumberAsSaid = (c : Call) → NumberSaid (c .left)
 abbrev pub CorrectionCases : Type 0
 CorrectionCases = (c : Correction) → FirstThatHolds (c .table) (c .frame) (c .left)
 
+-- 15 is given where the value, in any right record, would break a rule of the table, and nowhere else
+abbrev pub CorrectionValue : Type 0
+CorrectionValue = (c : Correction) → ValueJudged (c .frame) (c .left)
+
 -- ---- 6. A run
 
 -- calls one after another on one table: each is lent the table that the call before it left. `Calls t u`: from the table `t` to the table `u`
@@ -168,17 +171,18 @@ RunValid = (t u : List ℕ) → Calls t u → valid t ≡ true → valid u ≡ t
 abbrev pub acceptedFor : List ℕ → {t u : List ℕ} → Calls t u → ℕ
 acceptedFor imsi {t} cs = acceptedIn imsi t (stepsOf cs)
 
--- two clerks who saw one change number of one record are not both obeyed, whatever calls came between, short of 2^32 − 1 accepted corrections of it
+-- two clerks who saw one change number (bytes 20–23 of a frame) of one record (its IMSI bytes 4–19) are not both obeyed, whatever calls came between,
+-- short of 2^32 − 1 accepted corrections of it
 abbrev pub NotBothAccepted : Type 0
 NotBothAccepted =
-    (f g : Correction) (between : Calls (f .left .table) (g .table)) → frameImsi (g .frame) ≡ frameImsi (f .frame) → frameSeen (g .frame) ≡ frameSeen (f .frame)
-    → f .left .number ≡ 0 → g .left .number ≡ 0 → 2 ^ 32 - 1 ≤ acceptedFor (frameImsi (f .frame)) between
+    (f g : Correction) (between : Calls (f .left .table) (g .table)) → part 4 16 (g .frame) ≡ part 4 16 (f .frame) → numAt 4 (g .frame) 20 ≡ numAt 4 (f .frame) 20
+    → f .left .number ≡ 0 → g .left .number ≡ 0 → 2 ^ 32 - 1 ≤ acceptedFor (part 4 16 (f .frame)) between
 
 -- a clerk whose correction is accepted corrects what was seen: at the same change number, with fewer than 2^32 accepted since, all that corrections alter is
 -- the same
 abbrev pub SameAsSeen : Type 0
 SameAsSeen =
-    (imsi t u : List ℕ) (cs : Calls t u) → changeOf (recordWith imsi u) ≡ changeOf (recordWith imsi t) → acceptedFor imsi cs < 2 ^ 32
+    (imsi t u : List ℕ) (cs : Calls t u) → numAt 4 (recordWith imsi u) 16 ≡ numAt 4 (recordWith imsi t) 16 → acceptedFor imsi cs < 2 ^ 32
     → (acceptedFor imsi cs ≡ 0) × (standingOf (recordWith imsi u) ≡ standingOf (recordWith imsi t))
 
 -- ---- 7. Answers read back
@@ -218,7 +222,7 @@ CorrectionAlters = (c : Correction) → c .left .number ≡ 0 → (i : ℕ) × A
 -- which record it names: in a valid table the counted one with the 16 bytes of the frame from byte 4 on
 abbrev pub CorrectionRecordIs : Type 0
 CorrectionRecordIs =
-    (c : Correction) → valid (c .table) ≡ true → ItsRecord (part 4 16 (c .frame)) (c .table) (lookup (frameImsi (c .frame)) (c .table)) (recordWith (frameImsi (c .frame)) (c .table))
+    (c : Correction) → valid (c .table) ≡ true → ItsRecord (part 4 16 (c .frame)) (c .table) (lookup (part 4 16 (c .frame)) (c .table)) (recordWith (part 4 16 (c .frame)) (c .table))
 
 -- ---- 10. Not empty
 
