@@ -4,8 +4,8 @@ use mathlib.Core.Path.{_≡_}
 use mathlib.Core.Bool.{Bool, true, false, cond, _&&_, _||_, not}
 use mathlib.Core.Option.{Option, none, some}
 use mathlib.Core.List.{List, [], _∷_}
-use Prim.Native.Nat.{ℕ, _+_, _%_}
-use lib.ListN.{length, getD, replicate}
+use Prim.Native.Nat.{ℕ, _+_, _%_, _≤_}
+use lib.ListN.{length, take, drop, getD, replicate}
 use lib.Dec.{leb, eqb}
 use Rattle.wire.specs.Number.{be, numAt, Bytes}
 use Rattle.dictionary.specs.declared.Kind.{Kind}
@@ -18,12 +18,12 @@ use Rattle.paper.specs.Find.{hasKey}
 use Rattle.paper.specs.Profile.{Key, commandOf, userName, sessionId, originHost, vendorId, resultCode, authSessionState, failedAvp, proxyInfo, originRealm, experimentalResult, experimentalResultCode, bandwidthDownlink, bandwidthUplink, subscriptionData, ulaFlags, visitedPlmnId, subscriberStatus, accessRestrictionData, ambr, puaFlags, purFlags}
 use Rattle.paper.specs.Table.{Slot, mme, sgsn}
 use Rattle.paper.specs.Request.{versionOf, messageLength, isProxiable, commandCode, applicationOf, avpsOf, viewOf, find, isThere, numberOf, requiredIn, imeiOf, ifUsed, repeated, imsiDigits, isName, threeBytes, imeiDigits}
-use Rattle.paper.specs.Procedures.{sender, isUlr, isPur, skipSubscriberData, isSender}
+use Rattle.paper.specs.Procedures.{Entry, sender, isUlr, isPur, skipSubscriberData, isSender}
 use Rattle.paper.specs.Widened.{shownOf}
 use Rattle.paper.specs.Shown.{stretch}
 use Rattle.paper.specs.ShownIn.{Standing}
 use Rattle.paper.specs.Outcome.{Lent, Outcome, outcome}
-use Rattle.paper.specs.Read.{before, answerIn, codesIn, listedIn}
+use Rattle.paper.specs.Read.{before, answerIn, codesIn, listedIn, listLaid, ofNodes}
 use Rattle.paper.specs.Refusals.{Said, number, result, experimental, said, wrong}
 
 -- ---- what is read in a list of AVPs
@@ -214,6 +214,14 @@ codesTold (number n) = 0 ∷ 0 ∷ []
 codesTold (result code) = code ∷ 0 ∷ []
 codesTold (experimental code) = 0 ∷ code ∷ []
 
+-- the cancel buffer, lent as `c` and left as `c′` with the list `es`, byte for byte:
+-- "Unused entries are zero. Every answered request writes all 136 bytes; later bytes stay."
+pub record ListRead (c c′ : List ℕ) (es : List Entry) : Type 0 where
+  pub most : length es ≤ 2
+  pub nodes : ofNodes es ≡ true
+  pub bytes : take 136 c′ ≡ listLaid es
+  pub later : drop 136 c′ ≡ drop 136 c
+
 -- the answer that the outcome `o` of what was lent left, read by our message reader
 pub record ReadBack (l : Lent) (o : Outcome) : Type 0 where
   pub header : HeaderRead (l .request) (answerIn o) (said o)
@@ -224,6 +232,7 @@ pub record ReadBack (l : Lent) (o : Outcome) : Type 0 where
   pub size : length (answerIn o) ≡ o .size
   pub codes : codesIn (answerIn o) ≡ codesTold (said o)
   pub listed : length (listedIn o) ≡ o .listed
+  pub cancel : ListRead (l .cancel) (o .cancel) (listedIn o)
 
 -- every answer, whatever was lent: the number is 0 where there is one
 abbrev pub AnswersReadBack : Type 0
