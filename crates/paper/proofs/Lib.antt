@@ -18,6 +18,8 @@ pub mod EchoSizes
 pub mod EntryLaws
 pub mod Everything
 pub mod FieldLaws
+pub mod FirstLaws
+pub mod FirstSeconds
 pub mod FlagBits
 pub mod ListedLaws
 pub mod NameLaws

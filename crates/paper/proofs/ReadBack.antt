@@ -111,14 +111,14 @@ module _ (l : Lent) (t : List ℕ) (es : List Entry) (y : Reply) (k : Answers l 
   unfolding answered
   its-cancel = rw (its-entries, k .comes) (list-read es (l .cancel) (k .readable) (k .few))
 
-  answer-reads : ReadBack l (outcome l)
-  answer-reads =
+  answer-reads : Bytes (l .request) → ReadBack l (outcome l)
+  answer-reads b =
       let s = toldBy (y .verdict) in
       record {
         header = rw its-said its-header;
         no-fault = visited;
         holding = rw its-said held;
-        failed = rw its-said (failed-read (l .request) (k .passed .least) s (rw (k .promised .failed) at (k .promised .there)));
+        failed = rw its-said (failed-read (l .request) (k .passed .least) b s (rw (k .promised .failed) at (k .promised .there)));
         size = its-size;
         codes = rw its-said (codes-read (l .request) (l .host) (l .realm) (before l) (answerOf l) s (subst (λ (s : Said). proper s ≡ true) its-said (told-proper l)) held);
         listed = its-list;
@@ -193,9 +193,9 @@ accepted-holds l a = held l _ _ _ (success-answers l (success l a))
 by-comes : (l : Lent) → Bytes (l .request) → (o : Outcome) → Comes l o → outcome l ≡ o → (o .verdict ≡ none → ⊥) → ReadBack l (outcome l)
 unfolding silent
 by-comes l b o (silence n) q a = absurd (a refl)
-by-comes l b o (refused p x e) q a = answer-reads l _ _ _ (refused-answers l b p x e q)
-by-comes l b o (ruled p n code) q a = answer-reads l _ _ _ (ruled-answers l p n code q)
-by-comes l b o (done p n i f) q a = answer-reads l _ _ _ (success-answers l (record { place = i; passed = p; unrefused = n; found = f; comes = q }))
+by-comes l b o (refused p x e) q a = answer-reads l _ _ _ (refused-answers l b p x e q) b
+by-comes l b o (ruled p n code) q a = answer-reads l _ _ _ (ruled-answers l p n code q) b
+by-comes l b o (done p n i f) q a = answer-reads l _ _ _ (success-answers l (record { place = i; passed = p; unrefused = n; found = f; comes = q })) b
 
 -- a call that comes to the number 0 has an answer
 has-answer : (l : Lent) → outcome l .number ≡ 0 → outcome l .verdict ≡ none → ⊥

@@ -132,6 +132,20 @@ second : heldBy (ask subscriber (ulrWith b 2 (item userName imsi))) ≡ echoing 
 unfolding heldBy
 second = refl
 
+-- a second IMEI, 2…2 behind 1…1, and a second User-Name, 333333 behind the IMSI: what stands first is shown, and the second of the two
+abbrev two-imeis : List ℕ
+two-imeis = item terminalInformation (item imei (replicate 14 49) ++ item imei (replicate 14 50))
+
+second-imei : heldBy (ask subscriber (ulrWith b 2 (two-imeis ++ item userName (replicate 6 51))))
+    ≡ echoing (told 19 145 (showing (base 279) (received 1402 192 10415 (replicate 14 50)) no-more))
+unfolding heldBy
+second-imei = refl
+
+second-name : heldBy (ask subscriber (ulrWith b 2 (item userName (replicate 6 51) ++ two-imeis)))
+    ≡ echoing (told 19 145 (showing (base 279) (received 1 64 0 (replicate 6 51)) no-more))
+unfolding heldBy
+second-name = refl
+
 -- RAT-Type is absent: a 4-byte type; Visited-PLMN-Id is absent
 absent-four : heldBy (ask subscriber (requestOf ulr (requiredFrom b))) ≡ echoing (told 19 141 (showing (base 279) (received 1032 192 10415 (0 ∷ 0 ∷ 0 ∷ 0 ∷ [])) no-more))
 unfolding heldBy

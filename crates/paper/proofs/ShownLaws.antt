@@ -24,10 +24,10 @@ use Rattle.paper.proofs.StandsIn.{AllIn, stretch-rest, part-all-in, hea
 -- ---- what was found
 
 -- `P` holds of what was found, if anything was
-abbrev Found : {A : Type 0} → (A → Type 0) → Option A → Type 0
+abbrev pub Found : {A : Type 0} → (A → Type 0) → Option A → Type 0
 Found {A} P o = (x : A) → o ≡ some x → P x
 
-found-none : {A : Type 0} (P : A → Type 0) → Found P none
+pub found-none : {A : Type 0} (P : A → Type 0) → Found P none
 found-none P x e = let z : _≡_ {A = ℕ} 0 1 = cc in absurd (omega arith)
 
 found-some : {A : Type 0} (P : A → Type 0) (y : A) → P y → Found P (some y)
@@ -36,6 +36,12 @@ found-some P y h x e = let r : y ≡ x = cc in subst P r h
 found-orElse : {A : Type 0} (P : A → Type 0) (a b : Option A) → Found P a → Found P b → Found P (orElse a b)
 found-orElse P none b f g = g
 found-orElse P (some y) b f g = f
+
+pub found-earlier : (P : Placed → Type 0) (o q : Option Placed) → Found P o → Found P q → Found P (earlier o q)
+unfolding earlier
+found-earlier P none q f g = g
+found-earlier P (some o) none f g = f
+found-earlier P (some o) (some q) f g = cond-cases (Found P) (ltb (q .at) (o .at)) (λ e. g) (λ e. f)
 
 -- ---- a view
 
@@ -115,12 +121,6 @@ module _ (m : List ℕ) where
   pub none-standing : Standing m none
   none-standing = found-none (StandsIn m)
 
-  earlier-standing : (o q : Option Placed) → Standing m o → Standing m q → Standing m (earlier o q)
-  unfolding earlier
-  earlier-standing none q f g = g
-  earlier-standing (some o) none f g = f
-  earlier-standing (some o) (some q) f g = cond-cases (Standing m) (ltb (q .at) (o .at)) (λ e. g) (λ e. f)
-
   inside-standing : (o : Option Placed) → Standing m o → AllIn m (inside o)
   inside-standing none t = tt
   inside-standing (some p) t = inside-all-in m p (t p refl)
@@ -135,7 +135,7 @@ module _ (m : List ℕ) where
 -- ---- what the tests of a request look at
 
 module _ (m : List ℕ) (long : 20 ≤ length m) where
-  all-in : AllIn m (avpsOf m)
+  pub all-in : AllIn m (avpsOf m)
   unfolding avpsOf
   all-in = rw (stretch-rest 20 m) at (part-all-in m 20 (length m - 20) (omega arith))
 
@@ -157,7 +157,7 @@ module _ (m : List ℕ) (long : 20 ≤ length m) where
   pub repeated-standing : Standing m (repeated m)
   unfolding repeated
   repeated-standing =
-      earlier-standing m (firstSecond (map keyNumber (used m)) [] (avpsOf m)) (firstSecond (keyNumber imei ∷ []) [] (terminal m))
+      found-earlier (StandsIn m) (firstSecond (map keyNumber (used m)) [] (avpsOf m)) (firstSecond (keyNumber imei ∷ []) [] (terminal m))
       (second-standing m (avpsOf m) all-in (map keyNumber (used m))) (second-standing m (terminal m) terminal-in (keyNumber imei ∷ []))
 
   -- the fault and the unknown AVP of a request's visit

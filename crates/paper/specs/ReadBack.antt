@@ -25,6 +25,7 @@ use Rattle.paper.specs.ShownIn.{Standing}
 use Rattle.paper.specs.Outcome.{Lent, Outcome, outcome}
 use Rattle.paper.specs.Read.{before, answerIn, codesIn, listedIn, listLaid, ofNodes}
 use Rattle.paper.specs.Refusals.{Said, number, result, experimental, said, wrong}
+use Rattle.paper.specs.Firsts.{IsFirst, Repeats}
 
 -- ---- what is read in a list of AVPs
 
@@ -205,6 +206,7 @@ pub record FailedRead (m : List ℕ) (s : Said) : Type 0 where
   pub there : isShown (failedBy m s) ≡ tells 5001 s || (tells 5004 s || (tells 5005 s || (tells 5009 s || tells 5014 s)))
   pub unknown : Standing m (viewOf m .unsupported)
   pub second : Standing m (repeated m)
+  pub first-second : IsFirst (λ (p : Placed). p .at) (Repeats m) (repeated m)
   pub wrong-value : Standing m (firstWrong m)
   pub fault : (f : Faulty) → viewOf m .fault ≡ some f → headOf (viewOf m .fault) ≡ some (bareOf (stretch m (f .shown .at) (f .shown .end)))
 
