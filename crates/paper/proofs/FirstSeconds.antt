@@ -4,11 +4,11 @@ use mathlib.Core.Path.{_≡_, refl, sym, ap, _∙_, subst, subst₂}
 use mathlib.Core.Bool.{Bool, true, false, cond, _&&_, _||_, false≢true, or-true}
 use mathlib.Core.Option.{Option, none, some}
 use mathlib.Core.List.{List, [], _∷_, map}
-use Prim.Native.Nat.{ℕ, _+_, _-_, _*_, _^_, _≤_, _<_}
+use Prim.Native.Nat.{ℕ, _+_, _-_, _≤_, _<_}
 use native.Mathlib.Omega.{arith}
 use lib.ListN.{length, drop}
 use lib.Dec.{ltb, eqb}
-use borrow.Author.Tests.{eqb-true, eqb-false, eq-eqb, ne-eqb, ltb-true, ltb-false}
+use borrow.Author.Tests.{eqb-true, eqb-false, eq-eqb, ne-eqb, ltb-true}
 use Rattle.wire.specs.Number.{Bytes}
 use Rattle.wire.proofs.ListLaws.{and-true-left, and-true-right}
 use Rattle.wire.proofs.NumberLaws.{numAt-lt, bytes-part}
@@ -20,10 +20,12 @@ use Rattle.paper.specs.Profile.{Key, ulr, pur, nor, commands, commandIn,
 use Rattle.paper.specs.Request.{commandCode, avpsOf, find, inside, has, usedIn, used, terminal, keyNumber, earlier, repeated}
 use Rattle.paper.specs.ShownIn.{StandsIn, HeadIn}
 use Rattle.paper.specs.Refusals.{UsedBy, usedBy}
-use Rattle.paper.specs.Firsts.{IsFirst, Among, here, behind, Keyed, Leads, Second, topOf, insideOf, oneOf, saysUsed, Used, Repeats, of-command, of-terminal}
+use Rattle.paper.specs.Firsts.{IsFirst, Among, here, behind, Leads, Second, topOf, insideOf, oneOf, saysUsed, Used, Repeats, of-command, of-terminal}
+use Rattle.paper.proofs.OptionLaws.{earlier-cases}
 use Rattle.paper.proofs.AvpsLaws.{cond-cases, some-injective}
 use Rattle.paper.proofs.StandsIn.{AllIn, inside-all-in}
-use Rattle.paper.proofs.ShownLaws.{Found, found-none, found-earlier, all-in, top-standing}
+use Rattle.paper.proofs.ShownLaws.{found-earlier, all-in, top-standing}
+use Rattle.paper.proofs.VisitLaws.{Found, found-none}
 use Rattle.paper.proofs.FirstLaws.{each-among, Lies, bodyEnd, avps-lie, behind-later, NoLater, placeOf, found-leads, leads-found}
 
 -- ---- keys as numbers
@@ -211,21 +213,17 @@ earlier-left : (a b : Option Placed) (y : Placed) → NoLater placeOf a y → No
 unfolding earlier
 earlier-left none b y n = found-none (λ x. NoLater placeOf (earlier none b) y) (n .0) (n .1)
 earlier-left (some p) none y n = n
-earlier-left (some p) (some q) y n = go (ltb (q .at) (p .at)) refl (place-found (y .at) (n .1) (n .2))
-  where
-    go : (c : Bool) → ltb (q .at) (p .at) ≡ c → p .at ≤ y .at → NoLater placeOf (cond c (some q) (some p)) y
-    go true e h = let k = ltb-true (q .at) (p .at) e in (q, refl, omega arith)
-    go false e h = (p, refl, h)
+earlier-left (some p) (some q) y n =
+    let i = place-found (y .at) (n .1) (n .2) in
+    earlier-cases (λ o. NoLater placeOf o y) p q (λ h. (q, refl, omega arith)) (λ h. (p, refl, i))
 
 earlier-right : (a b : Option Placed) (y : Placed) → NoLater placeOf b y → NoLater placeOf (earlier a b) y
 unfolding earlier
 earlier-right none b y n = n
 earlier-right (some p) none y n = found-none (λ x. NoLater placeOf (earlier (some p) none) y) (n .0) (n .1)
-earlier-right (some p) (some q) y n = go (ltb (q .at) (p .at)) refl (place-found (y .at) (n .1) (n .2))
-  where
-    go : (c : Bool) → ltb (q .at) (p .at) ≡ c → q .at ≤ y .at → NoLater placeOf (cond c (some q) (some p)) y
-    go true e h = (q, refl, h)
-    go false e h = let k = ltb-false (q .at) (p .at) e in (p, refl, omega arith)
+earlier-right (some p) (some q) y n =
+    let i = place-found (y .at) (n .1) (n .2) in
+    earlier-cases (λ o. NoLater placeOf o y) p q (λ h. (q, refl, i)) (λ h. (p, refl, omega arith))
 
 -- ---- of a request
 

@@ -20,6 +20,7 @@ pub mod Everything
 pub mod FieldLaws
 pub mod FirstLaws
 pub mod FirstSeconds
+pub mod FirstVisit
 pub mod FlagBits
 pub mod ListedLaws
 pub mod NameLaws
@@ -79,5 +80,6 @@ pub mod TestLaws
 pub mod Totals
 pub mod UlrSizes
 pub mod ViewLaws
+pub mod VisitLaws
 pub mod WidenedView
 pub mod WrittenLaws

@@ -29,6 +29,7 @@ use Rattle.paper.proofs.AvpsLaws.{cond-cases}
 use Rattle.paper.proofs.OptionLaws.{Holds, holds-orElse}
 use Rattle.paper.proofs.ShownLaws.{none-standing, used-standing, imei-standing, repeated-standing, view-shows}
 use Rattle.paper.proofs.FirstSeconds.{first-repeated}
+use Rattle.paper.proofs.FirstVisit.{first-mandatory, first-fault}
 use Rattle.paper.proofs.WrittenLaws.{vendor-fits, vendor-without-V, read-writable, for-key-writable}
 use Rattle.paper.proofs.ReadBackAvps.{Own}
 
@@ -58,10 +59,12 @@ module _ (m : List ℕ) (least : 20 ≤ length m) where
       record {
         there = e;
         unknown = view-shows m least .unsupported;
+        first-unknown = first-mandatory m;
         second = repeated-standing m least;
         first-second = first-repeated m least b;
         wrong-value = wrong-standing;
         fault = fault-head;
+        first-fault = first-fault m;
       }
 
 -- ---- what is shown can be written

@@ -25,7 +25,7 @@ use Rattle.paper.specs.ShownIn.{Standing}
 use Rattle.paper.specs.Outcome.{Lent, Outcome, outcome}
 use Rattle.paper.specs.Read.{before, answerIn, codesIn, listedIn, listLaid, ofNodes}
 use Rattle.paper.specs.Refusals.{Said, number, result, experimental, said, wrong}
-use Rattle.paper.specs.Firsts.{IsFirst, Repeats}
+use Rattle.paper.specs.Firsts.{IsFirst, Repeats, Faults, Mandatory}
 
 -- ---- what is read in a list of AVPs
 
@@ -201,14 +201,17 @@ isShown none = false
 isShown (some a) = true
 
 -- Failed-AVP stands in the answer for its five Result-Codes and no other;
--- and what it shows of the request `m` is read off the request's own bytes, from its place to the end of what encloses it
+-- what it shows of the request `m` is read off the request's own bytes, from its place to the end of what encloses it;
+-- and it is the first unknown AVP with M, the first second, the first fault: by `Firsts.antt`, which knows nothing of how they are looked for
 pub record FailedRead (m : List ℕ) (s : Said) : Type 0 where
   pub there : isShown (failedBy m s) ≡ tells 5001 s || (tells 5004 s || (tells 5005 s || (tells 5009 s || tells 5014 s)))
   pub unknown : Standing m (viewOf m .unsupported)
+  pub first-unknown : IsFirst (λ (p : Placed). p .at) (Mandatory m) (viewOf m .unsupported)
   pub second : Standing m (repeated m)
   pub first-second : IsFirst (λ (p : Placed). p .at) (Repeats m) (repeated m)
   pub wrong-value : Standing m (firstWrong m)
   pub fault : (f : Faulty) → viewOf m .fault ≡ some f → headOf (viewOf m .fault) ≡ some (bareOf (stretch m (f .shown .at) (f .shown .end)))
+  pub first-fault : IsFirst (λ (f : Faulty). f .shown .at) (λ f. Faults m (f .code) (f .shown .at) (f .shown .end)) (viewOf m .fault)
 
 -- Result-Code and Experimental-Result-Code, 0 for the one that is not told
 unfoldable pub codesTold : Said → List ℕ
