@@ -10,7 +10,7 @@ use native.Mathlib.Nat.{add-zero}
 use native.Mathlib.Omega.{arith}
 use lib.Dec.{ltb, eqb}
 use lib.ListN.{length, take, drop, getD, replicate, length-append, length-replicate}
-use lib.Seq.{take-at, drop-at, getD-append-add}
+use lib.Seq.{take-at, getD-append-add}
 use borrow.Author.Tests.{ltb-false, eqb-false, ne-eqb}
 use Rattle.wire.specs.Put.{part, put}
 use Rattle.wire.proofs.ListLaws.{part-append-right}
@@ -124,19 +124,9 @@ length-laid (e ∷ f ∷ es) r =
     let k = laid-length f (r .1 .0 .size) in
     simp length-append (omega arith)
 
-module _ (es : List Entry) (c : List ℕ) (r : EachOf Readable es) (h : length es ≤ 2) where
-  left-laid : put 0 (cancelBytes 2 es) c ≡ listLaid es ++ drop 136 c
-  unfolding put
-  left-laid = rw (laid-list es h, length-laid es r)
-
-  pub list-read : ListRead c (put 0 (cancelBytes 2 es) c) es
-  list-read =
-      record {
-        most = h;
-        nodes = of-nodes es r;
-        bytes = ap (take 136) left-laid ∙ take-at (listLaid es) (drop 136 c) 136 (length-laid es r);
-        later = ap (drop 136) left-laid ∙ drop-at (listLaid es) (drop 136 c) 136 (length-laid es r);
-      }
+pub list-read : (es : List Entry) (c : List ℕ) → EachOf Readable es → length es ≤ 2 → ListRead (put 0 (cancelBytes 2 es) c) es
+unfolding put
+list-read es c r h = record { most = h; nodes = of-nodes es r; bytes = rw (laid-list es h) (take-at (listLaid es) (drop (0 + length (listLaid es)) c) 136 (length-laid es r)) }
 
 -- ---- a node is listed, or not
 

@@ -107,7 +107,7 @@ module _ (l : Lent) (t : List ℕ) (es : List Entry) (y : Reply) (k : Answers l 
   unfolding answered
   its-list = ap length its-entries ∙ sym (ap (λ (o : Outcome). o .listed) (k .comes))
 
-  its-cancel : ListRead (l .cancel) (outcome l .cancel) (listedBy l)
+  its-cancel : ListRead (outcome l .cancel) (listedBy l)
   unfolding answered
   its-cancel = rw (its-entries, k .comes) (list-read es (l .cancel) (k .readable) (k .few))
 

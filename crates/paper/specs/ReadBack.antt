@@ -5,7 +5,7 @@ use mathlib.Core.Bool.{Bool, true, false, cond, _&&_, _||_, not}
 use mathlib.Core.Option.{Option, none, some}
 use mathlib.Core.List.{List, [], _∷_}
 use Prim.Native.Nat.{ℕ, _+_, _%_, _≤_}
-use lib.ListN.{length, take, drop, getD, replicate}
+use lib.ListN.{length, take, getD, replicate}
 use lib.Dec.{leb, eqb}
 use Rattle.wire.specs.Number.{be, numAt, Bytes}
 use Rattle.dictionary.specs.declared.Kind.{Kind}
@@ -219,13 +219,11 @@ codesTold (number n) = 0 ∷ 0 ∷ []
 codesTold (result code) = code ∷ 0 ∷ []
 codesTold (experimental code) = 0 ∷ code ∷ []
 
--- the cancel buffer, lent as `c` and left as `c′` with the list `es`, byte for byte:
--- "Unused entries are zero. Every answered request writes all 136 bytes; later bytes stay."
-pub record ListRead (c c′ : List ℕ) (es : List Entry) : Type 0 where
+-- the cancel buffer `c`, in which the list `es` is read, byte for byte: "Every answered request writes all 136 bytes"
+pub record ListRead (c : List ℕ) (es : List Entry) : Type 0 where
   pub most : length es ≤ 2
   pub nodes : ofNodes es ≡ true
-  pub bytes : take 136 c′ ≡ listLaid es
-  pub later : drop 136 c′ ≡ drop 136 c
+  pub bytes : take 136 c ≡ listLaid es
 
 -- the answer that the outcome `o` of what was lent left, read by our message reader
 pub record ReadBack (l : Lent) (o : Outcome) : Type 0 where
@@ -237,7 +235,7 @@ pub record ReadBack (l : Lent) (o : Outcome) : Type 0 where
   pub size : length (answerIn o) ≡ o .size
   pub codes : codesIn (answerIn o) ≡ codesTold (said o)
   pub listed : length (listedIn o) ≡ o .listed
-  pub cancel : ListRead (l .cancel) (o .cancel) (listedIn o)
+  pub cancel : ListRead (o .cancel) (listedIn o)
 
 -- every answer, whatever was lent: the number is 0 where there is one
 abbrev pub AnswersReadBack : Type 0
