@@ -189,7 +189,7 @@ breaks-avp at s p t = ap (λ (q : Placed). q .avp) (t .read)
 
 -- ---- AVPs that are found
 
-some-injective : {p q : Placed} → some p ≡ some q → p ≡ q
+pub some-injective : {p q : Placed} → some p ≡ some q → p ≡ q
 some-injective e = cc
 
 found-either : (P : Placed → Type 0) (p : Placed) (b : Bool) (x y : Option Placed) → (b ≡ true → x ≡ some p → P p) → (y ≡ some p → P p) → cond b x y ≡ some p → P p

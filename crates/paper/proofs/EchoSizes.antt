@@ -9,7 +9,7 @@ use mathlib.Core.List.{List, [], _∷_, _++_, map}
 use Prim.Native.Nat.{ℕ, _+_, _*_, _≤_, _<_}
 use native.Mathlib.Omega.{arith}
 use lib.ListN.{length, drop, length-append, length-drop}
-use lib.Dec.{ltb, eqb}
+use lib.Dec.{eqb}
 use borrow.Author.Tests.{eqb-true, eqb-false, eq-eqb, ne-eqb}
 use Rattle.dictionary.specs.declared.Kind.{Kind}
 use Rattle.dictionary.specs.declared.Kind.the-variants.{Any, Group, Closed, Unknown}
@@ -24,7 +24,7 @@ use Rattle.paper.specs.Request.{avpsOf, find, has, inside, usedIn, used,
 use Rattle.paper.specs.Answer.{item, echoed, eachOf}
 use Rattle.paper.proofs.AvpLaws.{headSize-least}
 use Rattle.paper.proofs.AvpsLaws.{cond-cases, sizes-most}
-use Rattle.paper.proofs.OptionLaws.{Holds, holds-map, holds-both}
+use Rattle.paper.proofs.OptionLaws.{Holds, holds-map, holds-both, earlier-cases}
 use Rattle.paper.proofs.Totals.{total, numberOf, sizeIf, sizeOther, totals, distinct, keys-and-others, key-among-others, key-among-all, sizeIf-key, first-takes, firstSize, first-of-all, second-of-keys, second-takes}
 use Rattle.paper.proofs.ShownSizes.{view-small, body-takes}
 use Rattle.paper.proofs.AnswerParts.{length-base, echoSize}
@@ -234,4 +234,4 @@ module _ (m : List ℕ) (h : 20 ≤ length m) where
       earlier-fits : (o q : Option Placed) → Shown m o → Shown m q → Shown m (earlier o q)
       earlier-fits none q a b = b
       earlier-fits (some p) none a b = a
-      earlier-fits (some p) (some q) a b = cond-cases (Shown m) (ltb (q .at) (p .at)) (λ e. b) (λ e. a)
+      earlier-fits (some p) (some q) a b = earlier-cases (Shown m) p q (λ h. b) (λ h. a)

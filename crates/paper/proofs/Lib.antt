@@ -19,6 +19,9 @@ pub mod EchoSizes
 pub mod EntryLaws
 pub mod Everything
 pub mod FieldLaws
+pub mod FirstLaws
+pub mod FirstSeconds
+pub mod FirstVisit
 pub mod FlagBits
 pub mod KindLaws
 pub mod ListedLaws
@@ -85,5 +88,6 @@ pub mod Totals
 pub mod UlrSizes
 pub mod ValueLaws
 pub mod ViewLaws
+pub mod VisitLaws
 pub mod WidenedView
 pub mod WrittenLaws

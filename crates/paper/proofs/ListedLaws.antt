@@ -15,13 +15,13 @@ use Rattle.paper.proofs.ProcedureLaws.{each-command, imei-entries}
 -- ---- every entry has a node's number
 
 abbrev pub Numbered : Entry → Type 0
-Numbered e = 1 ≤ e .node
+Numbered e = (1 ≤ e .node) × (e .node ≤ 2)
 
 numbered-if : (b : Bool) (e : Entry) → Numbered e → EachOf Numbered (cond b (e ∷ []) [])
 numbered-if true e p = (p, tt)
 numbered-if false e p = tt
 
-node-number : (slot : Slot) → Node slot → 1 ≤ slot .number
+pub node-number : (slot : Slot) → Node slot → (1 ≤ slot .number) × (slot .number ≤ 2)
 node-number slot the-mme = omega arith
 node-number slot the-sgsn = omega arith
 

@@ -6,7 +6,7 @@ use mathlib.Core.Option.{Option, none, some}
 use mathlib.Core.List.{List, [], _∷_, map}
 use Prim.Native.Nat.{ℕ, _+_, _%_, _<_}
 use native.Mathlib.Omega.{arith}
-use lib.Dec.{ltb, eqb}
+use lib.Dec.{eqb}
 use lib.ListN.{length, drop, getD, length-drop}
 use borrow.Author.Tests.{eq-eqb}
 use Rattle.wire.proofs.ListLaws.{and-true-both, getD-part}
@@ -22,6 +22,7 @@ use Rattle.paper.specs.Profile.{Key, application, commandOf, sessionId, 
 use Rattle.paper.specs.Request.{messageLength, commandCode, applicationOf, avpsOf, viewOf, find, isThere, has, usedIn, terminal, imeiOf, keyNumber, refuse, versionTest, lengthTest, errorTest, ofFault, faultTest, applicationTest, commandTest, ofFound, unsupportedTest, earlier, repeated, repeatedTest, absentTest, valueTest, imsiDigits, isName, threeBytes, imeiDigits, ifUsed, valuesTest, refusal}
 use Rattle.paper.specs.Answer.{eachOf}
 use Rattle.paper.specs.Newer.{topLevel, seenBy, SameHeader, Fits}
+use Rattle.paper.proofs.OptionLaws.{earlier-cases}
 use Rattle.paper.proofs.AvpLaws.{padded-fours, length-after}
 use Rattle.paper.proofs.AvpsLaws.{avps-induction}
 use Rattle.paper.proofs.ViewLaws.{orElse-none}
@@ -51,11 +52,9 @@ neither : (o q : Option Placed) → earlier o q ≡ none → (o ≡ none) × (q 
 unfolding earlier
 neither none q e = (refl, e)
 neither (some p) none e = let z : _≡_ {A = ℕ} 0 1 = cc in absurd (omega arith)
-neither (some p) (some q) e = go (ltb (q .at) (p .at)) e
-  where
-    go : (b : Bool) → cond b (some q) (some p) ≡ none → (some p ≡ none) × (some q ≡ none)
-    go true f = let z : _≡_ {A = ℕ} 0 1 = cc in absurd (omega arith)
-    go false f = let z : _≡_ {A = ℕ} 0 1 = cc in absurd (omega arith)
+neither (some p) (some q) e =
+    earlier-cases (λ o. o ≡ none → (some p ≡ none) × (some q ≡ none)) p q (λ h f. let z : _≡_ {A = ℕ} 0 1 = cc in absurd (omega arith))
+    (λ h f. let z : _≡_ {A = ℕ} 0 1 = cc in absurd (omega arith)) e
 
 there-none : (o : Option Placed) → isThere o ≡ false → o ≡ none
 there-none none e = refl

@@ -2,33 +2,38 @@
 -- Assumes nothing.
 use mathlib.Core.Path.{_≡_, refl, sym, ap, _∙_}
 use mathlib.Core.Logic.{_≢_}
-use mathlib.Core.Bool.{Bool, true, false, cond, _&&_, not}
+use mathlib.Core.Bool.{Bool, true, false, cond, _&&_, _||_, not}
 use mathlib.Core.Option.{Option, none, some}
-use mathlib.Core.List.{List, [], _∷_, _++_, append-assoc}
+use mathlib.Core.List.{List, [], _∷_, _++_, append-assoc, append-nil}
 use Prim.Native.Nat.{ℕ, zero, suc, _+_, _-_, _≤_}
 use native.Mathlib.Nat.{add-zero}
 use native.Mathlib.Omega.{arith}
 use lib.Dec.{ltb, eqb}
-use lib.ListN.{length, take, drop, getD, replicate, length-append}
+use lib.ListN.{length, take, drop, getD, replicate, length-append, length-replicate}
 use lib.Seq.{take-at, getD-append-add}
-use borrow.Author.Tests.{ltb-false, ne-eqb}
+use borrow.Author.Tests.{ltb-false, eqb-false, ne-eqb}
 use Rattle.wire.specs.Put.{part, put}
 use Rattle.wire.proofs.ListLaws.{part-append-right}
 use Rattle.wire.proofs.StretchLaws.{same-equal, same-differ}
 use Rattle.paper.specs.Layout.{recordSize, mostName, entrySize, mostEntries}
 use Rattle.paper.specs.Table.{recordRight, Slot, nameOf}
 use Rattle.paper.specs.Procedures.{Entry, sameName, registered, listed, cancelList, entryBytes, cancelBytes}
-use Rattle.paper.specs.Read.{entryAt, entriesIn, ofNode, listing}
-use Rattle.paper.proofs.FieldLaws.{Node, the-mme, the-sgsn, name-size}
+use Rattle.paper.specs.Read.{entryAt, entriesIn, entryLaid, listLaid, ofNodes, ofNode, listing}
+use Rattle.paper.specs.ReadBack.{ListRead}
+use Rattle.paper.proofs.FieldLaws.{Node, name-size}
 use Rattle.paper.proofs.EntryLaws.{length-name, length-entry, EachOf}
+use Rattle.paper.proofs.ListedLaws.{Numbered, node-number}
 use Rattle.paper.proofs.PromiseFields.{Other, sgsn-of-mme, mme-of-sgsn}
 
 -- ---- read back
 
 -- an entry that can be told from an unused one, and whose name fits
 pub record Readable (e : Entry) : Type 0 where
-  pub used : e .node ≢ 0
+  pub node : Numbered e
   pub size : length (e .name) ≤ mostName
+
+not-unused : (e : Entry) → Numbered e → e .node ≢ 0
+not-unused e n q = omega arith
 
 module _ (a : List ℕ) (e : Entry) (b : List ℕ) where
   byte-of : (j : ℕ) → getD (a ++ (entryBytes e ++ b)) (length a + j) 0 ≡ getD (entryBytes e ++ b) j 0
@@ -71,13 +76,57 @@ entries-behind (suc n) a (e ∷ es) b r h =
     ap (λ (k : ℕ). entriesIn n k (a ++ (entryBytes e ++ (c ++ b)))) size
     ∙ ap (λ (l : List ℕ). entriesIn n (length (a ++ entryBytes e)) l) after
     ∙ entries-behind n (a ++ entryBytes e) es b (r .1) (omega arith) in
-    let used : eqb (getD (a ++ (entryBytes e ++ (c ++ b))) (length a) 0) 0 ≡ false = ap (λ (k : ℕ). eqb k 0) (node-read a e (c ++ b)) ∙ ne-eqb (e .node) 0 (r .0 .used) in
+    let used : eqb (getD (a ++ (entryBytes e ++ (c ++ b))) (length a) 0) 0 ≡ false = ap (λ (k : ℕ). eqb k 0) (node-read a e (c ++ b)) ∙ ne-eqb (e .node) 0 (not-unused e (r .0 .node)) in
     rw (joined, used, entry-read a e (c ++ b), others)
 
 -- the entries of a cancel buffer to which they were written
 pub entries-back : (es : List Entry) (c : List ℕ) → EachOf Readable es → length es ≤ mostEntries → entriesIn mostEntries 0 (put 0 (cancelBytes mostEntries es) c) ≡ es
 unfolding put
 entries-back es c r h = entries-behind mostEntries [] es (drop (0 + length (cancelBytes mostEntries es)) c) r h
+
+-- ---- byte for byte
+
+one-of-two : (n : ℕ) → 1 ≤ n → n ≤ 2 → eqb n 1 || eqb n 2 ≡ true
+one-of-two n h k = go (eqb n 1) refl
+  where
+    go : (b : Bool) → eqb n 1 ≡ b → b || eqb n 2 ≡ true
+    go true e = refl
+    go false e =
+        let other : n ≢ 1 = λ q. eqb-false n 1 e q in
+        let two : n ≡ 2 = omega arith in
+        rw two
+
+of-nodes : (es : List Entry) → EachOf Readable es → ofNodes es ≡ true
+unfolding ofNodes
+of-nodes [] r = refl
+of-nodes (e ∷ es) r = let n = r .0 .node in rw (one-of-two (e .node) (n .0) (n .1), of-nodes es (r .1))
+
+laid-entry : (e : Entry) → entryBytes e ≡ entryLaid e
+unfolding entryBytes entryLaid
+laid-entry e = refl
+
+laid-length : (e : Entry) → length (e .name) ≤ mostName → length (entryLaid e) ≡ 68
+laid-length e h = ap length (sym (laid-entry e)) ∙ length-entry e h
+
+laid-list : (es : List Entry) → length es ≤ 2 → cancelBytes 2 es ≡ listLaid es
+unfolding cancelBytes listLaid
+laid-list [] h = refl
+laid-list (e ∷ []) h = rw (laid-entry e)
+laid-list (e ∷ f ∷ []) h = rw (laid-entry e, laid-entry f, append-nil (entryLaid f))
+laid-list (e ∷ f ∷ g ∷ es) h = absurd (omega arith)
+
+length-laid : (es : List Entry) → EachOf Readable es → length (listLaid es) ≡ 136
+unfolding listLaid
+length-laid [] r = refl
+length-laid (e ∷ []) r = let n = laid-length e (r .0 .size) in simp (length-append, length-replicate) (omega arith)
+length-laid (e ∷ f ∷ es) r =
+    let n = laid-length e (r .0 .size) in
+    let k = laid-length f (r .1 .0 .size) in
+    simp length-append (omega arith)
+
+pub list-read : (es : List Entry) (c : List ℕ) → EachOf Readable es → length es ≤ 2 → ListRead (put 0 (cancelBytes 2 es) c) es
+unfolding put
+list-read es c r h = record { most = h; nodes = of-nodes es r; bytes = rw (laid-list es h) (take-at (listLaid es) (drop (0 + length (listLaid es)) c) 136 (length-laid es r)) }
 
 -- ---- a node is listed, or not
 
@@ -117,11 +166,7 @@ module _ (slot : Slot) (r sent : List ℕ) (node : Node slot) (long : length r �
   each-if true type =
       let n = length-name slot r node long right in
       let k = name-size slot r node right in
-      (record { used = numbered slot node; size = omega arith }, tt)
-    where
-      numbered : (slot : Slot) → Node slot → slot .number ≢ 0
-      numbered slot the-mme = λ q. let z : _≡_ {A = ℕ} 1 0 = q in omega arith
-      numbered slot the-sgsn = λ q. let z : _≡_ {A = ℕ} 2 0 = q in omega arith
+      (record { node = node-number slot node; size = omega arith }, tt)
   each-if false type = tt
 
   pub listed-readable : (type : ℕ) → EachOf Readable (listed slot type sent r)

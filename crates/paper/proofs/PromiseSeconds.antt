@@ -7,7 +7,7 @@ use mathlib.Core.List.{List, [], _∷_, map}
 use Prim.Native.Nat.{ℕ, _+_}
 use native.Mathlib.Nat.{zero-add}
 use native.Mathlib.Omega.{arith}
-use lib.Dec.{leb, ltb, eqb}
+use lib.Dec.{leb, eqb}
 use borrow.Author.Tests.{eqb-true, eqb-false, eq-eqb, ne-eqb, le-leb}
 use Rattle.dictionary.specs.Rows.{keyOf}
 use Rattle.paper.specs.Find.{member, firstSecond}
@@ -15,6 +15,7 @@ use Rattle.paper.specs.Reader.{Placed, Avps, whole, broken, more}
 use Rattle.paper.specs.Profile.{imei}
 use Rattle.paper.specs.Request.{avpsOf, isThere, used, terminal, keyNumber, earlier, repeated}
 use Rattle.paper.specs.Refusals.{times, twice}
+use Rattle.paper.proofs.OptionLaws.{earlier-cases}
 
 pub eqb-sym : (a b : ℕ) → eqb a b ≡ eqb b a
 eqb-sym a b = go (eqb a b) refl
@@ -100,11 +101,7 @@ earlier-there : (a b : Option Placed) → isThere (earlier a b) ≡ isThere a ||
 unfolding earlier
 earlier-there none b = refl
 earlier-there (some p) none = refl
-earlier-there (some p) (some q) = go (ltb (q .at) (p .at))
-  where
-    go : (b : Bool) → isThere (cond b (some q) (some p)) ≡ true
-    go true = refl
-    go false = refl
+earlier-there (some p) (some q) = earlier-cases (λ o. isThere o ≡ true) p q (λ h. refl) (λ h. refl)
 
 pub repeated-twice : (m : List ℕ) → isThere (repeated m) ≡ twice (map keyNumber (used m)) (avpsOf m) || twice (keyNumber imei ∷ []) (terminal m)
 unfolding repeated

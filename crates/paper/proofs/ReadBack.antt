@@ -23,7 +23,7 @@ use Rattle.paper.specs.Outcome.{Lent, Outcome, silent, answered, refusal
 use Rattle.paper.specs.Read.{before, answerOf, entriesIn, listedBy}
 use Rattle.paper.specs.Refusals.{Said, result, experimental, saidBy, said, isAnswered}
 use Rattle.paper.specs.Promises.{Accepted}
-use Rattle.paper.specs.ReadBack.{Held, ReadAs, isFaulty, unechoed, failedBy, holds, HeaderRead, ReadBack, AnswersReadBack}
+use Rattle.paper.specs.ReadBack.{Held, ReadAs, isFaulty, unechoed, failedBy, holds, HeaderRead, ListRead, ReadBack, AnswersReadBack}
 use Rattle.paper.proofs.OptionLaws.{Holds}
 use Rattle.paper.proofs.EntryLaws.{EachOf, Listable}
 use Rattle.paper.proofs.ListedLaws.{Numbered, carried-numbered}
@@ -35,7 +35,7 @@ use Rattle.paper.proofs.AnswerSizes.{ReplyTo, answer-fours}
 use Rattle.paper.proofs.OutcomeLaws.{Comes, silence, refused, ruled, done, outcome-comes}
 use Rattle.paper.proofs.PromiseTests.{refusal-otherwise}
 use Rattle.paper.proofs.PromiseNumbers.{number-said}
-use Rattle.paper.proofs.PromiseEntries.{Readable, entries-back}
+use Rattle.paper.proofs.PromiseEntries.{Readable, entries-back, list-read}
 use Rattle.paper.proofs.PromiseSuccess.{Success, success, inside, before-is}
 use Rattle.paper.proofs.ReadBackAvps.{seen, Reads, read-held}
 use Rattle.paper.proofs.ReadBackHeader.{toldBy, header-read, answer-is, behind-is, answer-avps, answer-short}
@@ -48,7 +48,7 @@ use Rattle.paper.proofs.ReadBackCodes.{proper, told-proper, codes-read}
 
 readable-each : (sent : List ℕ) (es : List Entry) → EachOf (Listable sent) es → EachOf Numbered es → EachOf Readable es
 readable-each sent [] a b = tt
-readable-each sent (e ∷ es) a b = (record { used = λ q. let n = b .0 in omega arith; size = a .0 .size }, readable-each sent es (a .1) (b .1))
+readable-each sent (e ∷ es) a b = (record { node = b .0; size = a .0 .size }, readable-each sent es (a .1) (b .1))
 
 -- ---- an answer of which the promise holds
 
@@ -100,24 +100,30 @@ module _ (l : Lent) (t : List ℕ) (es : List Entry) (y : Reply) (k : Answers l 
   unfolding answered
   its-size = ap length (answer-is l t es y (k .comes)) ∙ sym (ap (λ (o : Outcome). o .size) (k .comes))
 
+  its-entries : listedBy l ≡ es
+  unfolding answered
+  its-entries = ap (λ (o : Outcome). entriesIn mostEntries 0 (o .cancel)) (k .comes) ∙ entries-back es (l .cancel) (k .readable) (k .few)
+
   its-list : length (listedBy l) ≡ outcome l .listed
   unfolding answered
-  its-list =
-      ap (λ (o : Outcome). length (entriesIn mostEntries 0 (o .cancel))) (k .comes)
-      ∙ ap length (entries-back es (l .cancel) (k .readable) (k .few))
-      ∙ sym (ap (λ (o : Outcome). o .listed) (k .comes))
+  its-list = ap length its-entries ∙ sym (ap (λ (o : Outcome). o .listed) (k .comes))
 
-  answer-reads : ReadBack l (outcome l)
-  answer-reads =
+  its-cancel : ListRead (outcome l .cancel) (listedBy l)
+  unfolding answered
+  its-cancel = rw (its-entries, k .comes) (list-read es (l .cancel) (k .readable) (k .few))
+
+  answer-reads : Bytes (l .request) → ReadBack l (outcome l)
+  answer-reads b =
       let s = toldBy (y .verdict) in
       record {
         header = rw its-said its-header;
         no-fault = visited;
         holding = rw its-said held;
-        failed = rw its-said (failed-read (l .request) (k .passed .least) s (rw (k .promised .failed) at (k .promised .there)));
+        failed = rw its-said (failed-read (l .request) (k .passed .least) b s (rw (k .promised .failed) at (k .promised .there)));
         size = its-size;
         codes = rw its-said (codes-read (l .request) (l .host) (l .realm) (before l) (answerOf l) s (subst (λ (s : Said). proper s ≡ true) its-said (told-proper l)) held);
         listed = its-list;
+        cancel = its-cancel;
       }
 
 -- ---- each kind of outcome
@@ -188,9 +194,9 @@ accepted-holds l a = held l _ _ _ (success-answers l (success l a))
 by-comes : (l : Lent) → Bytes (l .request) → (o : Outcome) → Comes l o → outcome l ≡ o → (o .verdict ≡ none → ⊥) → ReadBack l (outcome l)
 unfolding silent
 by-comes l b o (silence n) q a = absurd (a refl)
-by-comes l b o (refused p x e) q a = answer-reads l _ _ _ (refused-answers l b p x e q)
-by-comes l b o (ruled p n code) q a = answer-reads l _ _ _ (ruled-answers l p n code q)
-by-comes l b o (done p n i f) q a = answer-reads l _ _ _ (success-answers l (record { place = i; passed = p; unrefused = n; found = f; comes = q }))
+by-comes l b o (refused p x e) q a = answer-reads l _ _ _ (refused-answers l b p x e q) b
+by-comes l b o (ruled p n code) q a = answer-reads l _ _ _ (ruled-answers l p n code q) b
+by-comes l b o (done p n i f) q a = answer-reads l _ _ _ (success-answers l (record { place = i; passed = p; unrefused = n; found = f; comes = q })) b
 
 -- a call that comes to the number 0 has an answer
 has-answer : (l : Lent) → outcome l .number ≡ 0 → outcome l .verdict ≡ none → ⊥

@@ -107,6 +107,12 @@ fault : heldBy (ask subscriber (put 24 (79 ∷ 0 ∷ 0 ∷ 7 ∷ []) (ulrFrom b 
 unfolding heldBy
 fault = refl
 
+-- a RAT-Type of one byte inside Terminal-Information is the first fault; behind it a Session-Id with length 7
+first-fault : heldBy (ask subscriber (ulrWith b 2 (item terminalInformation (item ratType (1 ∷ [])) ++ (0 ∷ 0 ∷ 1 ∷ 7 ∷ 64 ∷ 0 ∷ 0 ∷ 7 ∷ []))))
+    ≡ told 19 150 (showing (base 279) (received 1032 192 10415 []) no-more)
+unfolding heldBy
+first-fault = refl
+
 -- the ninth of Terminal-Informations one in another: its head alone
 nested : ℕ → List ℕ
 nested zero = []
@@ -128,9 +134,38 @@ unknown : heldBy (ask subscriber (ulrWith b 2 (item terminalInformation (0 ∷ 0
 unfolding heldBy
 unknown = refl
 
+-- an unknown AVP with M and no data; its code is 4096 and `last`
+abbrev stranger : ℕ → List ℕ
+stranger last = 0 ∷ 0 ∷ 16 ∷ last ∷ 64 ∷ 0 ∷ 0 ∷ 8 ∷ []
+
+-- one inside Terminal-Information is shown, and not the one behind it; of one inside Proxy-Info, which is not entered, nothing is said
+first-unknown : heldBy (ask subscriber (ulrWith b 2 (item terminalInformation (stranger 1) ++ stranger 2)))
+    ≡ echoing (told 19 137 (showing (base 279) (received 4097 64 0 []) no-more))
+unfolding heldBy
+first-unknown = refl
+
+not-in-proxy-info : heldBy (ask subscriber (ulrWith b 2 (item proxyInfo (stranger 1) ++ stranger 2)))
+    ≡ echoing (told 19 137 (showing (base 279) (received 4098 64 0 []) (plain (base 284) (stranger 1) no-more)))
+unfolding heldBy
+not-in-proxy-info = refl
+
 second : heldBy (ask subscriber (ulrWith b 2 (item userName imsi))) ≡ echoing (told 19 145 (showing (base 279) (received 1 64 0 imsi) no-more))
 unfolding heldBy
 second = refl
+
+-- a second IMEI, 2…2 behind 1…1, and a second User-Name, 333333 behind the IMSI: what stands first is shown, and the second of the two
+abbrev two-imeis : List ℕ
+two-imeis = item terminalInformation (item imei (replicate 14 49) ++ item imei (replicate 14 50))
+
+second-imei : heldBy (ask subscriber (ulrWith b 2 (two-imeis ++ item userName (replicate 6 51))))
+    ≡ echoing (told 19 145 (showing (base 279) (received 1402 192 10415 (replicate 14 50)) no-more))
+unfolding heldBy
+second-imei = refl
+
+second-name : heldBy (ask subscriber (ulrWith b 2 (item userName (replicate 6 51) ++ two-imeis)))
+    ≡ echoing (told 19 145 (showing (base 279) (received 1 64 0 (replicate 6 51)) no-more))
+unfolding heldBy
+second-name = refl
 
 -- RAT-Type is absent: a 4-byte type; Visited-PLMN-Id is absent
 absent-four : heldBy (ask subscriber (requestOf ulr (requiredFrom b))) ≡ echoing (told 19 141 (showing (base 279) (received 1032 192 10415 (0 ∷ 0 ∷ 0 ∷ 0 ∷ [])) no-more))

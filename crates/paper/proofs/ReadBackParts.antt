@@ -1,6 +1,6 @@
 -- The AVPs that the promise says an answer holds: their bytes are those that are written, and the dictionary knows them.
 -- Assumes nothing.
-use mathlib.Core.Path.{_≡_, refl, sym, ap, _∙_}
+use mathlib.Core.Path.{_≡_, refl, ap, _∙_}
 use mathlib.Core.Bool.{Bool, true, false, cond, not}
 use mathlib.Core.Option.{Option, none, some}
 use mathlib.Core.List.{List, [], _++_, append-nil}

@@ -30,6 +30,8 @@ use Rattle.paper.proofs.AvpsLaws.{cond-cases}
 use Rattle.paper.proofs.OptionLaws.{Holds, holds-orElse}
 use Rattle.paper.proofs.SaidLaws.{by-code, user-name-said, origin-host-said, visited-plmn-id-said, terminal-said}
 use Rattle.paper.proofs.ShownLaws.{none-standing, used-standing, imei-standing, repeated-standing, view-shows}
+use Rattle.paper.proofs.FirstSeconds.{first-repeated}
+use Rattle.paper.proofs.FirstVisit.{first-mandatory, first-fault}
 use Rattle.paper.proofs.WrittenLaws.{vendor-fits, vendor-without-V, read-writable, for-key-writable}
 use Rattle.paper.proofs.ReadBackAvps.{Own}
 
@@ -54,8 +56,18 @@ module _ (m : List ℕ) (least : 20 ≤ length m) where
   fault-head f e =
       ap headOf e ∙ ap (λ (a : Avp). some (record { code = a .code; flags = a .flags; vendor = a .vendor; body = [] })) (view-shows m least .fault f e .avp)
 
-  pub failed-read : (s : Said) → isShown (failedBy m s) ≡ withFailed s → FailedRead m s
-  failed-read s e = record { there = e; unknown = view-shows m least .unsupported; second = repeated-standing m least; wrong-value = wrong-standing; fault = fault-head }
+  pub failed-read : Bytes m → (s : Said) → isShown (failedBy m s) ≡ withFailed s → FailedRead m s
+  failed-read b s e =
+      record {
+        there = e;
+        unknown = view-shows m least .unsupported;
+        first-unknown = first-mandatory m;
+        second = repeated-standing m least;
+        first-second = first-repeated m least b;
+        wrong-value = wrong-standing;
+        fault = fault-head;
+        first-fault = first-fault m;
+      }
 
 -- ---- what is shown can be written
 

@@ -7,6 +7,7 @@ pub mod Correction
 pub mod Desk
 pub mod Fields
 pub mod Find
+pub mod Firsts
 pub mod ItsRecord
 pub mod Layout
 pub mod Newer

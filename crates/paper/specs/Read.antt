@@ -1,10 +1,10 @@
 -- What a promise reads: the record of a request's IMSI before and after the call, the entries of the cancel buffer, and the AVPs of the answer.
 -- No definition here speaks of how a request is carried out. Assumes nothing.
-use mathlib.Core.Bool.{Bool, cond}
+use mathlib.Core.Bool.{Bool, true, cond, _&&_, _||_}
 use mathlib.Core.Option.{Option, none, some}
-use mathlib.Core.List.{List, [], _∷_}
-use Prim.Native.Nat.{ℕ, zero, suc, _+_}
-use lib.ListN.{take, getD}
+use mathlib.Core.List.{List, [], _∷_, _++_}
+use Prim.Native.Nat.{ℕ, zero, suc, _+_, _-_}
+use lib.ListN.{length, take, getD, replicate}
 use lib.Dec.{eqb}
 use Rattle.wire.specs.Number.{numAt}
 use Rattle.wire.specs.Put.{part}
@@ -57,6 +57,21 @@ listedIn o = entriesIn 2 0 (o .cancel)
 
 abbrev pub listedBy : Lent → List Entry
 listedBy l = listedIn (outcome l)
+
+-- the 68 bytes of an entry: node, type, name length, zero, and the name with zeros up to 64 bytes
+unfoldable pub entryLaid : Entry → List ℕ
+entryLaid e = e .node ∷ e .type ∷ length (e .name) ∷ 0 ∷ (e .name ++ replicate (64 - length (e .name)) 0)
+
+-- the 136 bytes of a list: no list has a third entry
+unfoldable pub listLaid : List Entry → List ℕ
+listLaid [] = replicate 136 0
+listLaid (e ∷ []) = entryLaid e ++ replicate 68 0
+listLaid (e ∷ f ∷ es) = entryLaid e ++ entryLaid f
+
+-- every entry is of a node: "1 MME or 2 SGSN"
+unfoldable pub ofNodes : List Entry → Bool
+ofNodes [] = true
+ofNodes (e ∷ es) = (eqb (e .node) 1 || eqb (e .node) 2) && ofNodes es
 
 -- the entries of one node, and the entry that lists a node of the record with a type
 unfoldable pub ofNode : Slot → List Entry → List Entry

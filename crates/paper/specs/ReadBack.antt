@@ -4,8 +4,8 @@ use mathlib.Core.Path.{_≡_}
 use mathlib.Core.Bool.{Bool, true, false, cond, _&&_, _||_, not}
 use mathlib.Core.Option.{Option, none, some}
 use mathlib.Core.List.{List, [], _∷_}
-use Prim.Native.Nat.{ℕ, _+_, _%_}
-use lib.ListN.{length, getD, replicate}
+use Prim.Native.Nat.{ℕ, _+_, _%_, _≤_}
+use lib.ListN.{length, take, getD, replicate}
 use lib.Dec.{leb, eqb}
 use Rattle.wire.specs.Number.{be, numAt, Bytes}
 use Rattle.dictionary.specs.declared.Kind.{Kind}
@@ -17,12 +17,14 @@ use Rattle.paper.specs.Reader.{Placed, Avps, whole, broken, more, avps, 
 use Rattle.paper.specs.Find.{hasKey}
 use Rattle.paper.specs.Profile.{Key, key}
 use Rattle.paper.specs.Request.{avpsOf, viewOf, find, isThere, valueOf, numberOf, repeated}
+use Rattle.paper.specs.Procedures.{Entry}
 use Rattle.paper.specs.Widened.{shownOf}
 use Rattle.paper.specs.Shown.{stretch}
 use Rattle.paper.specs.ShownIn.{Standing}
 use Rattle.paper.specs.Outcome.{Lent, Outcome, outcome}
-use Rattle.paper.specs.Read.{before, answerIn, codesIn, listedIn}
+use Rattle.paper.specs.Read.{before, answerIn, codesIn, listedIn, listLaid, ofNodes}
 use Rattle.paper.specs.Refusals.{Said, number, result, experimental, said, requiredSaid, userNameOf, originHostOf, visitedPlmnIdOf, imeiSent, wrong, nameSaid, imsiSaid, imeiSaid, isNamed}
+use Rattle.paper.specs.Firsts.{IsFirst, Repeats, Faults, Mandatory}
 
 -- ---- what is read in a list of AVPs
 
@@ -201,19 +203,29 @@ isShown none = false
 isShown (some a) = true
 
 -- Failed-AVP stands in the answer for its five Result-Codes and no other;
--- and what it shows of the request `m` is read off the request's own bytes, from its place to the end of what encloses it
+-- what it shows of the request `m` is read off the request's own bytes, from its place to the end of what encloses it;
+-- and it is the first unknown AVP with M, the first second, the first fault: by `Firsts.antt`, which knows nothing of how they are looked for
 pub record FailedRead (m : List ℕ) (s : Said) : Type 0 where
   pub there : isShown (failedBy m s) ≡ tells 5001 s || (tells 5004 s || (tells 5005 s || (tells 5009 s || tells 5014 s)))
   pub unknown : Standing m (viewOf m .unsupported)
+  pub first-unknown : IsFirst (λ (p : Placed). p .at) (Mandatory m) (viewOf m .unsupported)
   pub second : Standing m (repeated m)
+  pub first-second : IsFirst (λ (p : Placed). p .at) (Repeats m) (repeated m)
   pub wrong-value : Standing m (firstWrong m)
   pub fault : (f : Faulty) → viewOf m .fault ≡ some f → headOf (viewOf m .fault) ≡ some (bareOf (stretch m (f .shown .at) (f .shown .end)))
+  pub first-fault : IsFirst (λ (f : Faulty). f .shown .at) (λ f. Faults m (f .code) (f .shown .at) (f .shown .end)) (viewOf m .fault)
 
 -- Result-Code and Experimental-Result-Code, 0 for the one that is not told
 unfoldable pub codesTold : Said → List ℕ
 codesTold (number n) = 0 ∷ 0 ∷ []
 codesTold (result code) = code ∷ 0 ∷ []
 codesTold (experimental code) = 0 ∷ code ∷ []
+
+-- the cancel buffer `c`, in which the list `es` is read, byte for byte: "Every answered request writes all 136 bytes"
+pub record ListRead (c : List ℕ) (es : List Entry) : Type 0 where
+  pub most : length es ≤ 2
+  pub nodes : ofNodes es ≡ true
+  pub bytes : take 136 c ≡ listLaid es
 
 -- the answer that the outcome `o` of what was lent left, read by our message reader
 pub record ReadBack (l : Lent) (o : Outcome) : Type 0 where
@@ -225,6 +237,7 @@ pub record ReadBack (l : Lent) (o : Outcome) : Type 0 where
   pub size : length (answerIn o) ≡ o .size
   pub codes : codesIn (answerIn o) ≡ codesTold (said o)
   pub listed : length (listedIn o) ≡ o .listed
+  pub cancel : ListRead (o .cancel) (listedIn o)
 
 -- every answer, whatever was lent: the number is 0 where there is one
 abbrev pub AnswersReadBack : Type 0
