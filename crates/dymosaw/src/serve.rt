@@ -39,7 +39,7 @@ ghost use mathlib.Core.List.{List, []};
 ghost use mathlib.Core.Option.{none};
 ghost use Prim.Native.Nat.{ℕ, _+_, _≤_, _<_};
 ghost use lib.ListN.{length};
-ghost use Rattle.wire.specs.Number.{numAt};
+ghost use Rattle.wire.specs.Number.{numAt, Bytes};
 ghost use Rattle.answer.specs.Ask.{AnswerAsk};
 ghost use Rattle.paper.specs.Asked.{askedOf};
 ghost use Rattle.paper.specs.Fields.{filled};
@@ -325,7 +325,7 @@ fn serve_request(
     }
 }
 
-// Answers a request, for any bytes: 01's `outcome` of what was lent.
+// Answers a request, for any bytes: 01's `outcome` of what was lent. That the request lent is bytes is in its type; a caller learns it here.
 pub fn serve(
     table: &mut [u8],
     request: &[u8],
@@ -335,6 +335,7 @@ pub fn serve(
     cancel: &mut [u8],
 ) -> Served
     ensures { λ r. ⌜ cameTo r (now (table .exit)) (now (answer .exit)) (now (cancel .exit)) ≡ outcome (lent (now (table .entry)) (now (request .entry)) (now (host .entry)) (now (realm .entry)) (now (answer .entry)) (now (cancel .entry))) ⌝ }
+    ensures { λ r. ⌜ Bytes (now (request .entry)) ⌝ }
 {
     let number = silent_number(table, request, host, realm, answer, cancel);
     if number != 0 {
@@ -354,6 +355,7 @@ pub extern "C" fn dymosaw_request(
     cancel: &mut [u8],
 ) -> u64
     ensures { λ r. ⌜ Is (outcome (lent (now (table .entry)) (now (request .entry)) (now (host .entry)) (now (realm .entry)) (now (answer .entry)) (now (cancel .entry)))) r (now (table .exit)) (now (answer .exit)) (now (cancel .exit)) ⌝ }
+    ensures { λ r. ⌜ Bytes (now (request .entry)) ⌝ }
 {
     match serve(table, request, host, realm, answer, cancel) {
         Served::Refused { number } => (number as u64) * 4294967296,

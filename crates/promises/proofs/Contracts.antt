@@ -22,11 +22,11 @@ given κs a = lent (now (a .0)) (now (a .1 .0)) (now (a .1 .1 .0)) (now (a .1 .1
 
 pub serve-call : (κs : Lfts 6) (a : ArgsD serve.signature κs) (z : ResD serve.signature κs) (e : AtExit serve.ended κs) → serve-reads.Learnt κs a z e → ServeCall
 serve-call κs a z e learnt =
-    record { given = given κs a; result = z; table = now (e .0); answer = now (e .1 .1 .1 .1 .0); cancel = now (e .1 .1 .1 .1 .1 .0); met = learnt }
+    record { given = given κs a; bytes = learnt .1; result = z; table = now (e .0); answer = now (e .1 .1 .1 .1 .0); cancel = now (e .1 .1 .1 .1 .1 .0); met = learnt .0 }
 
 pub request-call : (κs : Lfts 6) (a : ArgsD request.signature κs) (z : ResD request.signature κs) (e : AtExit request.ended κs) → request-reads.Learnt κs a z e → RequestCall
 request-call κs a z e learnt =
-    record { given = given κs a; result = z; table = now (e .0); answer = now (e .1 .1 .1 .1 .0); cancel = now (e .1 .1 .1 .1 .1 .0); met = learnt }
+    record { given = given κs a; bytes = learnt .1; result = z; table = now (e .0); answer = now (e .1 .1 .1 .1 .0); cancel = now (e .1 .1 .1 .1 .1 .0); met = learnt .0 }
 
 pub correct-call : (κs : Lfts 2) (a : ArgsD correct.signature κs) (z : ResD correct.signature κs) (e : AtExit correct.ended κs) → correct-reads.Learnt κs a z e → CorrectCall
 correct-call κs a z e learnt = record { table = now (a .0); frame = now (a .1 .0); result = z; after = now (e .0); met = learnt }

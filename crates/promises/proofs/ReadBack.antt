@@ -14,10 +14,10 @@ use Rattle.promises.specs.Promises.{AnswersReadBack, AnswersVisited, ans
 use Rattle.promises.proofs.CallLaws.{of-call}
 
 pub answers-read-back : AnswersReadBack
-answers-read-back = of-call (λ l o. Bytes (l .request) → o .number ≡ 0 → ReadBack l o) paper-read.answers-read-back
+answers-read-back c = of-call (λ l o. Bytes (l .request) → o .number ≡ 0 → ReadBack l o) paper-read.answers-read-back c (c .bytes)
 
 -- what is told does not depend on what a command sees
 pub answers-visited : AnswersVisited
 unfolding messageOf visitOf viewOf
-answers-visited c b n =
-    alike-told (view-alike kindOf _ _ mostGroups 20 (drop 20 (answerOf c))) ∙ answers-read-back c b n .no-fault
+answers-visited c n =
+    alike-told (view-alike kindOf _ _ mostGroups 20 (drop 20 (answerOf c))) ∙ answers-read-back c n .no-fault

@@ -7,7 +7,6 @@ use mathlib.Core.Option.{none, some}
 use mathlib.Core.List.{List, [], _∷_, _++_}
 use Prim.Native.Nat.{ℕ, _-_, _/_, _%_, _^_, _≤_, _<_}
 use lib.ListN.{take, drop, replicate}
-use Rattle.wire.specs.Number.{Bytes}
 use Rattle.dictionary.specs.declared.Kind.the-variants.{Unknown}
 use Rattle.dictionary.specs.Rows.{kindOf}
 use Rattle.paper.specs.declared.Verdict.the-variants.{Base}
@@ -60,7 +59,7 @@ AddedUnsupported =
 -- a request without faults whose unknown AVPs have no M comes to what it comes to without them, where that is success or an Experimental-Result
 abbrev pub StrippedSame : Type 0
 StrippedSame =
-    (c d : Call) → Bytes (d .lent .request) → Fits (d .lent .request) → Clear (viewOf (d .lent .request)) → c .lent ≡ asking (d .lent) (strippedRequest (d .lent .request))
+    (c d : Call) → Fits (d .lent .request) → Clear (viewOf (d .lent .request)) → c .lent ≡ asking (d .lent) (strippedRequest (d .lent .request))
     → Accepting (c .left .verdict) → d .left ≡ c .left
 
 -- an answer that says success or an Experimental-Result, by its bytes: Result-Code, and Experimental-Result-Code
@@ -74,7 +73,7 @@ ServeNewerSame = (c d : ServeCall) (n : List ℕ) → Accepting (saidBy (c .resu
 
 abbrev pub RequestNewerSame : Type 0
 RequestNewerSame =
-    (c d : RequestCall) (n : List ℕ) → Bytes (c .given .request) → c .result / 2 ^ 32 ≡ 0 → AcceptingBytes (take (c .result % 2 ^ 32) (c .answer))
+    (c d : RequestCall) (n : List ℕ) → c .result / 2 ^ 32 ≡ 0 → AcceptingBytes (take (c .result % 2 ^ 32) (c .answer))
     → WidenedRequest (c .given .request) n none → d .given ≡ asking (c .given) n → SameRequested c d
 
 -- ---- 4. What an accepted request does
@@ -174,11 +173,11 @@ SameAsSeen =
 
 -- every answer, read AVP by AVP, holds what 01's section "The answer" says
 abbrev pub AnswersReadBack : Type 0
-AnswersReadBack = (c : Call) → Bytes (c .lent .request) → c .left .number ≡ 0 → ReadBack (c .lent) (c .left)
+AnswersReadBack = (c : Call) → c .left .number ≡ 0 → ReadBack (c .lent) (c .left)
 
 -- and `read_message`, the public reader, tells of no fault in it and of no unknown AVP with M
 abbrev pub AnswersVisited : Type 0
-AnswersVisited = (c : Call) → Bytes (c .lent .request) → c .left .number ≡ 0 → messageOf (answerOf c) .visit ≡ Clean
+AnswersVisited = (c : Call) → c .left .number ≡ 0 → messageOf (answerOf c) .visit ≡ Clean
 
 -- ---- 8. Nothing else is touched
 
