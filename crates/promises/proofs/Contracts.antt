@@ -14,7 +14,9 @@ use Rattle.dymosaw.proofs.correct.correct as correct
 use Rattle.dymosaw.proofs.correct.correct.Reads as correct-reads
 use Rattle.dymosaw.proofs.correct.dymosaw_correct as entry
 use Rattle.dymosaw.proofs.correct.dymosaw_correct.Reads as entry-reads
-use Rattle.promises.specs.Calls.{ServeCall, RequestCall, CorrectCall, EntryCall}
+use Rattle.dymosaw.proofs.read.read_message as read
+use Rattle.dymosaw.proofs.read.read_message.Reads as read-reads
+use Rattle.promises.specs.Calls.{ServeCall, RequestCall, CorrectCall, EntryCall, ReadCall}
 
 -- the buffers and names of a call for a request
 abbrev given : (κs : Lfts 6) → ArgsD serve.signature κs → Lent
@@ -33,3 +35,6 @@ correct-call κs a z e learnt = record { table = now (a .0); frame = now (a .1 .
 
 pub entry-call : (κs : Lfts 2) (a : ArgsD entry.signature κs) (z : ResD entry.signature κs) (e : AtExit entry.ended κs) → entry-reads.Learnt κs a z e → EntryCall
 entry-call κs a z e learnt = record { table = now (a .0); frame = now (a .1 .0); result = z; after = now (e .0); met = learnt }
+
+pub read-call : (κs : Lfts 1) (a : ArgsD read.signature κs) (z : ResD read.signature κs) (e : AtExit read.ended κs) → read-reads.Learnt κs a z e → ReadCall
+read-call κs a z e learnt = record { message = now (a .0); result = z; met = learnt }

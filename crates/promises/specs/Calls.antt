@@ -6,6 +6,8 @@ use Prim.Native.Nat.{ℕ, _/_, _%_, _^_}
 use Rattle.wire.specs.Number.{Bytes}
 use Rattle.paper.specs.Correction.{Corrected, corrected}
 use Rattle.paper.specs.Outcome.{Lent, Outcome, outcome}
+use Rattle.reader.specs.declared.message.Message.{Message}
+use Rattle.reader.specs.Message.{messageOf}
 use Rattle.correction.specs.declared.judge.Answer.{Answer}
 use Rattle.correction.specs.Answer as Answered
 use Rattle.dymosaw.specs.declared.serve.Served.{Served}
@@ -50,6 +52,14 @@ pub record EntryCall : Type 0 where
   pub result : ℕ
   pub after : List ℕ
   pub met : Entry.cameTo result after ≡ corrected table frame
+
+-- ---- the calls that read
+
+-- `read_message`
+pub record ReadCall : Type 0 where
+  pub message : List ℕ
+  pub result : Message
+  pub met : result ≡ messageOf message
 
 -- ---- what the promises speak of
 
