@@ -1,6 +1,7 @@
 // A request from its bytes to the answer's bytes, the record and the list of nodes to cancel. It is decided first, with every buffer only read, and
 // written after. `serve` is the call for Rattle, `dymosaw_request` the one for C.
 use answer::answer::put_answer;
+use avp::find::origin_host;
 use dictionary::all_keys;
 use dictionary::all_kinds;
 use paper::Asked;
@@ -39,14 +40,14 @@ ghost use mathlib.Core.List.{List, []};
 ghost use mathlib.Core.Option.{none};
 ghost use Prim.Native.Nat.{ℕ, _+_, _≤_, _<_};
 ghost use lib.ListN.{length};
-ghost use Rattle.wire.specs.Number.{numAt};
+ghost use Rattle.wire.specs.Number.{numAt, Bytes};
 ghost use Rattle.answer.specs.Ask.{AnswerAsk};
 ghost use Rattle.paper.specs.Asked.{askedOf};
 ghost use Rattle.paper.specs.Fields.{filled};
 ghost use Rattle.paper.specs.Layout.{mostDigits, leastRequest, cancelSize, ambrAt};
 ghost use Rattle.paper.specs.Outcome.{outcome, answered, successItems, byRefusal, byRecord, byVerdict};
 ghost use Rattle.paper.specs.Passed.{Passed};
-ghost use Rattle.paper.specs.Procedures.{Done, restrictionOf, imsiField, experimental};
+ghost use Rattle.paper.specs.Procedures.{Done, restrictionOf, imsiField, experimental, sender as senderOf};
 ghost use Rattle.paper.specs.Request.{isRequest, refusal};
 ghost use Rattle.paper.specs.Shown.{extraOf, replyOf};
 ghost use Rattle.paper.specs.Table.{recordOf, lookup};
@@ -197,19 +198,19 @@ fn grant(
     table: &mut [u8],
     i: usize,
     accepted: Accepted,
+    sender: &[u8],
     request: &[u8],
     host: &[u8],
     realm: &[u8],
     answer: &mut [u8],
     cancel: &mut [u8],
 ) -> Served
-    requires { ⌜ Ready (lent (now table) (now request) (now host) (now realm) (now answer) (now cancel)) × Held (now table) i × Accepts (now request) accepted ⌝ }
+    requires { ⌜ Ready (lent (now table) (now request) (now host) (now realm) (now answer) (now cancel)) × Held (now table) i × Accepts (now request) accepted × (now sender ≡ senderOf (now request)) ⌝ }
     ensures { λ r. ⌜ cameTo r (now (table .exit)) (now (answer .exit)) (now (cancel .exit)) ≡ byVerdict (lent (now (table .entry)) (now (request .entry)) (now (host .entry)) (now (realm .entry)) (now (answer .entry)) (now (cancel .entry))) i (recordOf (now (table .entry)) i) none ⌝ }
 {
     let restriction = restriction(table, i);
     let uplink = uplink(table, i);
     let downlink = downlink(table, i);
-    let sender = bytes_in(request, accepted.origin_host);
     let imei = bytes_in(request, accepted.imei);
     let purges = carry_out(table, i, accepted.asked, sender, imei, cancel);
     let extra = extra_of(accepted.asked, restriction, uplink, downlink, purges);
@@ -236,16 +237,16 @@ fn serve_record(
     table: &mut [u8],
     i: usize,
     accepted: Accepted,
+    sender: &[u8],
     request: &[u8],
     host: &[u8],
     realm: &[u8],
     answer: &mut [u8],
     cancel: &mut [u8],
 ) -> Served
-    requires { ⌜ Ready (lent (now table) (now request) (now host) (now realm) (now answer) (now cancel)) × Held (now table) i × Accepts (now request) accepted ⌝ }
+    requires { ⌜ Ready (lent (now table) (now request) (now host) (now realm) (now answer) (now cancel)) × Held (now table) i × Accepts (now request) accepted × (now sender ≡ senderOf (now request)) ⌝ }
     ensures { λ r. ⌜ cameTo r (now (table .exit)) (now (answer .exit)) (now (cancel .exit)) ≡ byVerdict (lent (now (table .entry)) (now (request .entry)) (now (host .entry)) (now (realm .entry)) (now (answer .entry)) (now (cancel .entry))) i (recordOf (now (table .entry)) i) (experimental (now (request .entry)) (recordOf (now (table .entry)) i)) ⌝ }
 {
-    let sender = bytes_in(request, accepted.origin_host);
     let plmn = bytes_in(request, accepted.visited_plmn);
     match verdict(table, i, accepted.asked, sender, plmn) {
         Ruling::Experimental(code) => put_refusal(
@@ -258,11 +259,22 @@ fn serve_record(
             answer,
             cancel,
         ),
-        Ruling::Fine => grant(table, i, accepted, request, host, realm, answer, cancel),
+        Ruling::Fine => grant(
+            table,
+            i,
+            accepted,
+            sender,
+            request,
+            host,
+            realm,
+            answer,
+            cancel,
+        ),
     }
 }
 
 // No Result-Code refuses the request: its IMSI is looked up. Experimental 5001 where no record has it.
+// "Origin-Host, once found, is handed on as that stretch of the request itself": `sender`, compared and stored below.
 fn serve_accepted(
     table: &mut [u8],
     request: &[u8],
@@ -276,9 +288,20 @@ fn serve_accepted(
     ensures { λ r. ⌜ cameTo r (now (table .exit)) (now (answer .exit)) (now (cancel .exit)) ≡ byRecord (lent (now (table .entry)) (now (request .entry)) (now (host .entry)) (now (realm .entry)) (now (answer .entry)) (now (cancel .entry))) (lookup (imsiField (now (request .entry))) (now (table .entry))) ⌝ }
 {
     let accepted = accept(request, places);
+    let sender = origin_host(request);
     let imsi = imsi_field(bytes_in(request, accepted.user_name));
     match find_record(table, &imsi) {
-        Found::At(i) => serve_record(table, i, accepted, request, host, realm, answer, cancel),
+        Found::At(i) => serve_record(
+            table,
+            i,
+            accepted,
+            sender,
+            request,
+            host,
+            realm,
+            answer,
+            cancel,
+        ),
         Found::Nothing => put_refusal(
             request,
             host,
@@ -325,7 +348,7 @@ fn serve_request(
     }
 }
 
-// Answers a request, for any bytes: 01's `outcome` of what was lent.
+// Answers a request, for any bytes: 01's `outcome` of what was lent. That the request lent is bytes is in its type; a caller learns it here.
 pub fn serve(
     table: &mut [u8],
     request: &[u8],
@@ -335,6 +358,7 @@ pub fn serve(
     cancel: &mut [u8],
 ) -> Served
     ensures { λ r. ⌜ cameTo r (now (table .exit)) (now (answer .exit)) (now (cancel .exit)) ≡ outcome (lent (now (table .entry)) (now (request .entry)) (now (host .entry)) (now (realm .entry)) (now (answer .entry)) (now (cancel .entry))) ⌝ }
+    ensures { λ r. ⌜ Bytes (now (request .entry)) ⌝ }
 {
     let number = silent_number(table, request, host, realm, answer, cancel);
     if number != 0 {
@@ -354,6 +378,7 @@ pub extern "C" fn dymosaw_request(
     cancel: &mut [u8],
 ) -> u64
     ensures { λ r. ⌜ Is (outcome (lent (now (table .entry)) (now (request .entry)) (now (host .entry)) (now (realm .entry)) (now (answer .entry)) (now (cancel .entry)))) r (now (table .exit)) (now (answer .exit)) (now (cancel .exit)) ⌝ }
+    ensures { λ r. ⌜ Bytes (now (request .entry)) ⌝ }
 {
     match serve(table, request, host, realm, answer, cancel) {
         Served::Refused { number } => (number as u64) * 4294967296,

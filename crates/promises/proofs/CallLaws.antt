@@ -29,7 +29,7 @@ for-c c =
     let o = outcome (c .given) in
     let short : o .size ≤ 4292 = outcome-size (c .given) in
     let m = c .met in (
-      record { lent = c .given; left = o; met = refl },
+      record { lent = c .given; bytes = c .bytes; left = o; met = refl },
       record {
         lent = refl;
         number = sym (ap (λ (r : ℕ). r / 2 ^ 32) (m .result) ∙ high (o .number) (o .size) (omega arith));

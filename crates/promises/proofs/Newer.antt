@@ -99,7 +99,7 @@ added-unsupported c d y t h o u m i s e =
 
 pub stripped-same : StrippedSame
 unfolding asking
-stripped-same c d b f v e h =
+stripped-same c d f v e h =
     let m = d .lent .request in
-    let w = rw (v .unsupported) at (stripped-widens m b f (v .fault)) in
+    let w = rw (v .unsupported) at (stripped-widens m (d .bytes) f (v .fault)) in
     newer-same c d m h (subst (λ (l : Lent). WidenedRequest (l .request) m none) (sym e) w) (ap (λ (l : Lent). asking l m) (sym e))

@@ -1,19 +1,22 @@
 -- One outcome for one input, of each public call that writes; demand 3 as a caller from Rattle and one from C see it; and the promises are not empty.
 -- Assumes nothing.
 use mathlib.Core.Path.{_≡_, refl, sym, ap, _∙_, subst}
-use mathlib.Core.Bool.{cond}
+use mathlib.Core.Bool.{true, cond, _&&_}
 use mathlib.Core.Logic.{_≢_}
 use mathlib.Core.Option.{Option, none, some}
 use mathlib.Core.List.{List, [], _∷_, _++_}
-use Prim.Native.Nat.{ℕ, _+_, _*_, _%_, _^_}
+use Prim.Native.Nat.{ℕ, zero, suc, _+_, _*_, _%_, _^_}
 use native.Mathlib.Omega.{arith}
-use lib.Dec.{eqb}
+use lib.Dec.{leb, eqb, lit<}
 use lib.ListN.{take, replicate}
+use borrow.Author.Tests.{leb-true}
 use Rattle.wire.specs.Number.{Bytes}
+use Rattle.wire.specs.Stretch.{allIn}
+use Rattle.wire.proofs.ListLaws.{and-true-left, and-true-right}
 use Rattle.paper.specs.declared.Verdict.{Verdict}
 use Rattle.paper.specs.declared.Verdict.the-variants.{Base, Experimental}
 use Rattle.paper.specs.Answer as Answer
-use Rattle.paper.specs.Attach.{tableAfter, attachAnswer, attachCancel, attachLent, attachOutcome}
+use Rattle.paper.specs.Attach.{attachRequest, tableAfter, attachAnswer, attachCancel, attachLent, attachOutcome}
 use Rattle.paper.specs.Correction.{Corrected, corrected}
 use Rattle.paper.specs.Newer as Newer
 use Rattle.paper.specs.Newer.{Accepting, Accepted}
@@ -96,11 +99,11 @@ bytes-accepting o a e (success q) = told-success (o .number) (o .verdict) (sym e
 bytes-accepting o a e (experimental code ne q) = told-experimental (o .number) (o .verdict) code ne (sym e ∙ q)
 
 pub request-newer-same : RequestNewerSame
-request-newer-same c d n b z h w e =
+request-newer-same c d n z h w e =
     let k = for-c c .0 in
     let s = for-c c .1 in
     let a : answerOf k ≡ take (c .result % 2 ^ 32) (c .answer) = cc in
-    let r = answers-read-back k (subst (λ (l : Lent). Bytes (l .request)) (sym (s .lent)) b) (s .number ∙ z) in
+    let r = answers-read-back k (s .number ∙ z) in
     let v = bytes-accepting (k .left) (answerOf k) (r .codes) (subst AcceptingBytes (sym a) h) in
     let accepted : Accepted (c .given) = subst (λ (o : Outcome). Accepting (o .verdict)) (k .met ∙ ap outcome (s .lent)) v in
     same-requested c d (ap outcome e ∙ paper-newer.newer-same (c .given) n accepted w)
@@ -146,12 +149,24 @@ entry-once c d p q =
 
 -- ---- not empty
 
+-- a list whose bytes are looked at one by one
+bytes-seen : (s : List ℕ) → allIn 0 255 s ≡ true → Bytes s
+unfolding allIn
+bytes-seen [] e i = lit< tt
+bytes-seen (x ∷ s) e zero = let h = leb-true x 255 (and-true-right (leb 0 x) _ (and-true-left (leb 0 x && leb x 255) _ e)) in omega arith
+bytes-seen (x ∷ s) e (suc i) = bytes-seen s (and-true-right (leb 0 x && leb x 255) _ e) i
+
+attach-bytes : Bytes attachRequest
+unfolding attachRequest allIn
+attach-bytes = bytes-seen attachRequest refl
+
 -- there is such a call
 pub attach-call : ServeCall
-unfolding attachOutcome
+unfolding attachLent attachOutcome
 attach-call =
     record {
       given = attachLent;
+      bytes = attach-bytes;
       result = Answered (Base (record { 0 = 2001 })) 200 2;
       table = tableAfter;
       answer = attachAnswer ++ replicate 4152 255;

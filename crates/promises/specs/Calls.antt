@@ -3,8 +3,11 @@
 use mathlib.Core.Path.{_≡_}
 use mathlib.Core.List.{List}
 use Prim.Native.Nat.{ℕ, _/_, _%_, _^_}
+use Rattle.wire.specs.Number.{Bytes}
 use Rattle.paper.specs.Correction.{Corrected, corrected}
 use Rattle.paper.specs.Outcome.{Lent, Outcome, outcome}
+use Rattle.reader.specs.declared.message.Message.{Message}
+use Rattle.reader.specs.Message.{messageOf}
 use Rattle.correction.specs.declared.judge.Answer.{Answer}
 use Rattle.correction.specs.Answer as Answered
 use Rattle.dymosaw.specs.declared.serve.Served.{Served}
@@ -17,6 +20,7 @@ use Rattle.dymosaw.specs.Serve.{Is}
 -- `serve`: the buffers and names that it was lent, its answer, and the three buffers after it
 pub record ServeCall : Type 0 where
   pub given : Lent
+  pub bytes : Bytes (given .request)
   pub result : Served
   pub table : List ℕ
   pub answer : List ℕ
@@ -26,6 +30,7 @@ pub record ServeCall : Type 0 where
 -- `dymosaw_request`, the same for C: number and length in one word
 pub record RequestCall : Type 0 where
   pub given : Lent
+  pub bytes : Bytes (given .request)
   pub result : ℕ
   pub table : List ℕ
   pub answer : List ℕ
@@ -48,12 +53,21 @@ pub record EntryCall : Type 0 where
   pub after : List ℕ
   pub met : Entry.cameTo result after ≡ corrected table frame
 
+-- ---- the calls that read
+
+-- `read_message`
+pub record ReadCall : Type 0 where
+  pub message : List ℕ
+  pub result : Message
+  pub met : result ≡ messageOf message
+
 -- ---- what the promises speak of
 
 -- A call for a request, from Rattle or from C. `left` has its number, the answer's length, what the answer says, how many nodes are listed, and every byte
 -- of table, answer buffer and cancel buffer after it.
 pub record Call : Type 0 where
   pub lent : Lent
+  pub bytes : Bytes (lent .request)
   pub left : Outcome
   pub met : left ≡ outcome lent
 
@@ -65,7 +79,7 @@ pub record Correction : Type 0 where
   pub met : left ≡ corrected table frame
 
 abbrev pub served : ServeCall → Call
-served c = record { lent = c .given; left = Serve.cameTo (c .result) (c .table) (c .answer) (c .cancel); met = c .met }
+served c = record { lent = c .given; bytes = c .bytes; left = Serve.cameTo (c .result) (c .table) (c .answer) (c .cancel); met = c .met }
 
 abbrev pub righted : CorrectCall → Correction
 righted c = record { table = c .table; frame = c .frame; left = Answered.cameTo (c .result) (c .after); met = c .met }

@@ -2,19 +2,19 @@
 -- docs/PROMISES.md has them in plain English, with what each does not cover. Assumes nothing.
 use mathlib.Core.Path.{_≡_}
 use mathlib.Core.Logic.{_↔_, _≢_}
-use mathlib.Core.Bool.{true, false}
+use mathlib.Core.Bool.{true, false, cond}
 use mathlib.Core.Option.{none, some}
 use mathlib.Core.List.{List, [], _∷_, _++_}
-use Prim.Native.Nat.{ℕ, _-_, _/_, _%_, _^_, _≤_, _<_}
-use lib.ListN.{take, drop, replicate}
-use Rattle.wire.specs.Number.{numAt, Bytes}
+use Prim.Native.Nat.{ℕ, _+_, _-_, _/_, _%_, _^_, _≤_, _<_}
+use lib.ListN.{take, drop, getD, replicate}
+use Rattle.wire.specs.Number.{numAt}
 use Rattle.wire.specs.Put.{part}
 use Rattle.dictionary.specs.declared.Kind.the-variants.{Unknown}
 use Rattle.dictionary.specs.Rows.{kindOf}
 use Rattle.paper.specs.declared.Verdict.the-variants.{Base}
 use Rattle.paper.specs.declared.Visit.the-variants.{Clean}
 use Rattle.paper.specs.Attach.{tableAfter, attachAnswer, attachCancel, attachLent}
-use Rattle.paper.specs.Avp.{Avp, codeOf, vendorOf, flagsOf, avpOf, hasM}
+use Rattle.paper.specs.Avp.{Avp, bit, codeOf, vendorOf, flagsOf, avpOf, hasM}
 use Rattle.paper.specs.Clerks.{recordWith, standingOf, FirstThatHolds, ValueJudged, Alters}
 use Rattle.paper.specs.ItsRecord.{ItsRecord, RequestRecord}
 use Rattle.paper.specs.Layout.{messageHeader}
@@ -22,7 +22,7 @@ use Rattle.paper.specs.Newer.{WidenedRequest, asking, Accepting, unsupportedOut
 use Rattle.paper.specs.Procedures.{Entry, imsiField}
 use Rattle.paper.specs.Promises.{ulrBit, UpdatesOnS6a, UpdatesOnS6d, AnswersUlr, PurgesUe, Notifies}
 use Rattle.paper.specs.Read.{entriesIn, codesIn}
-use Rattle.paper.specs.ReadBack.{ReadBack}
+use Rattle.paper.specs.ReadBack.{is3xxx, ReadBack}
 use Rattle.paper.specs.Refusals as Refusals
 use Rattle.paper.specs.Refusals.{Said, number, result, said, refusals, First, NumberSaid}
 use Rattle.paper.specs.Request.{viewOf}
@@ -31,10 +31,9 @@ use Rattle.paper.specs.Run.{Step, asks, corrects, Came, asked, put-right, accep
 use Rattle.paper.specs.Table.{valid, lookup}
 use Rattle.paper.specs.Untouched.{OnlyItsRecord, NoRecord, NoByte}
 use Rattle.paper.specs.Widened.{OneAvp, Inserted, Clear}
-use Rattle.reader.specs.Message.{messageOf}
 use Rattle.dymosaw.specs.declared.serve.Served.the-variants.{Answered}
 use Rattle.dymosaw.specs.Serve.{saidBy}
-use Rattle.promises.specs.Calls.{ServeCall, RequestCall, CorrectCall, EntryCall, Call, Correction, SeenByC, SameServed, SameRequested, SameCorrected, SameEntered}
+use Rattle.promises.specs.Calls.{ServeCall, RequestCall, CorrectCall, EntryCall, ReadCall, Call, Correction, SeenByC, SameServed, SameRequested, SameCorrected, SameEntered}
 use Rattle.promises.specs.Width.{Changes, Short}
 
 -- ---- 1 to 3. A newer node
@@ -61,7 +60,7 @@ AddedUnsupported =
 -- a request without faults whose unknown AVPs have no M comes to what it comes to without them, where that is success or an Experimental-Result
 abbrev pub StrippedSame : Type 0
 StrippedSame =
-    (c d : Call) → Bytes (d .lent .request) → Fits (d .lent .request) → Clear (viewOf (d .lent .request)) → c .lent ≡ asking (d .lent) (strippedRequest (d .lent .request))
+    (c d : Call) → Fits (d .lent .request) → Clear (viewOf (d .lent .request)) → c .lent ≡ asking (d .lent) (strippedRequest (d .lent .request))
     → Accepting (c .left .verdict) → d .left ≡ c .left
 
 -- an answer that says success or an Experimental-Result, by its bytes: Result-Code, and Experimental-Result-Code
@@ -75,7 +74,7 @@ ServeNewerSame = (c d : ServeCall) (n : List ℕ) → Accepting (saidBy (c .resu
 
 abbrev pub RequestNewerSame : Type 0
 RequestNewerSame =
-    (c d : RequestCall) (n : List ℕ) → Bytes (c .given .request) → c .result / 2 ^ 32 ≡ 0 → AcceptingBytes (take (c .result % 2 ^ 32) (c .answer))
+    (c d : RequestCall) (n : List ℕ) → c .result / 2 ^ 32 ≡ 0 → AcceptingBytes (take (c .result % 2 ^ 32) (c .answer))
     → WidenedRequest (c .given .request) n none → d .given ≡ asking (c .given) n → SameRequested c d
 
 -- ---- 4. What an accepted request does
@@ -189,11 +188,22 @@ SameAsSeen =
 
 -- every answer, read AVP by AVP, holds what 01's section "The answer" says
 abbrev pub AnswersReadBack : Type 0
-AnswersReadBack = (c : Call) → Bytes (c .lent .request) → c .left .number ≡ 0 → ReadBack (c .lent) (c .left)
+AnswersReadBack = (c : Call) → c .left .number ≡ 0 → ReadBack (c .lent) (c .left)
 
--- and `read_message`, the public reader, tells of no fault in it and of no unknown AVP with M
+-- and a call `r` of the public reader `read_message` on the answer's bytes tells of no fault in it and of no unknown AVP with M, and hands out this header:
+-- "Version 1; R, E, T clear but E set for 3xxx; P, command, application and both identifiers as received." P is 64, E is 32
+pub record Visited (c : Call) (r : ReadCall) : Type 0 where
+  pub visit : r .result .visit ≡ Clean
+  pub version : r .result .header .version ≡ 1
+  pub own-length : r .result .header .length ≡ c .left .size
+  pub flags : r .result .header .flags ≡ cond (bit 6 (getD (c .lent .request) 4 0)) 64 0 + cond (is3xxx (said (c .left))) 32 0
+  pub command : r .result .header .command ≡ numAt 3 (c .lent .request) 5
+  pub application : r .result .header .application ≡ numAt 4 (c .lent .request) 8
+  pub hop-by-hop : r .result .header .«hop_by_hop» ≡ numAt 4 (c .lent .request) 12
+  pub end-to-end : r .result .header .«end_to_end» ≡ numAt 4 (c .lent .request) 16
+
 abbrev pub AnswersVisited : Type 0
-AnswersVisited = (c : Call) → Bytes (c .lent .request) → c .left .number ≡ 0 → messageOf (answerOf c) .visit ≡ Clean
+AnswersVisited = (c : Call) (r : ReadCall) → c .left .number ≡ 0 → r .message ≡ answerOf c → Visited c r
 
 -- ---- 8. Nothing else is touched
 

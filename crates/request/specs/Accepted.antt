@@ -3,7 +3,7 @@
 use mathlib.Core.Path.{_≡_}
 use mathlib.Core.List.{List}
 use Prim.Native.Nat.{ℕ}
-use Rattle.paper.specs.Profile.{userName, originHost, visitedPlmnId}
+use Rattle.paper.specs.Profile.{userName, visitedPlmnId}
 use Rattle.paper.specs.Request.{valueOf}
 use Rattle.paper.specs.Asked.{askedOf, imeiDigitsOf}
 use Rattle.request.specs.declared.accept.Accepted.{Accepted}
@@ -18,6 +18,5 @@ pub record SpanOf (m x : List ℕ) (s : Span) : Type 0 where
 pub record Accepts (m : List ℕ) (r : Accepted) : Type 0 where
   pub asked : r .asked ≡ askedOf m
   pub user : SpanOf m (valueOf userName m) (r .«user_name»)
-  pub host : SpanOf m (valueOf originHost m) (r .«origin_host»)
   pub plmn : SpanOf m (valueOf visitedPlmnId m) (r .«visited_plmn»)
   pub imei : SpanOf m (imeiDigitsOf m) (r .imei)

@@ -1,4 +1,5 @@
-// What an accepted request asks: the numbers that the procedures go by, and where its names and digits stand.
+// What an accepted request asks: the numbers that the procedures go by, and where its digits and its network stand. Origin-Host is handed on as the
+// part of the request itself that holds it (avp's `origin_host`).
 ghost use mathlib.Core.Path.{_≡_};
 ghost use Prim.Native.Nat.{_≤_};
 ghost use lib.ListN.{length};
@@ -14,7 +15,6 @@ use crate::place::Span;
 use crate::place::is_there;
 use crate::place::number_of;
 use crate::place::span_of;
-use crate::profile::ORIGIN_HOST;
 use crate::profile::RAT_TYPE;
 use crate::profile::USER_NAME;
 use crate::profile::VISITED_PLMN_ID;
@@ -26,7 +26,6 @@ use reader::header::read_header;
 pub struct Accepted {
     pub asked: Asked,
     pub user_name: Span,
-    pub origin_host: Span,
     pub visited_plmn: Span,
     pub imei: Span,
 }
@@ -67,7 +66,6 @@ pub fn accept(m: &[u8], places: &[usize]) -> Accepted
     Accepted {
         asked: asked_of(m, places),
         user_name: value_of(m, places, USER_NAME),
-        origin_host: value_of(m, places, ORIGIN_HOST),
         visited_plmn: value_of(m, places, VISITED_PLMN_ID),
         imei: span_of(imei),
     }

@@ -30,7 +30,7 @@ returns : tie.Need-returns
 returns c =
     let v = c .before .before .before .before .before in
     let x = v .before .before .before .before .before .before .before .before .args in
-    answered-turn (x .table .now) (x .request .now) (v .serve .result) (v .serve .ensures) (c .answer-line .ensures)
+    answered-turn (x .table .now) (x .request .now) (v .serve .result) (v .serve .ensures .0) (c .answer-line .ensures)
 
 pub request-line-spec : {M : Type 1} → statement M
 request-line-spec = tie.close (tie.spec slice-aggregate-serve slice-aggregate-serve-2 slice-aggregate-serve-3 slice-aggregate-serve-4 serve-requires answer-line-requires same-length returns)

@@ -35,7 +35,7 @@ same-length-3 : tie.Need-same-length-3
 same-length-3 c = search needs
 
 returns : tie.Need-returns
-returns c = refused-is (given (c .before .before .before .before .before .before .before .before .before .before .before .before .before .before .before .before .before .before .before)) (c .before .before .before .before .before .before .before .before .before .serve .ensures) _ (c .before .number .given .1)
+returns c = let said = c .before .before .before .before .before .before .before .before .before .serve .ensures in (refused-is (given (c .before .before .before .before .before .before .before .before .before .before .before .before .before .before .before .before .before .before .before)) (said .0) _ (c .before .number .given .1), said .1)
 
 same-length-4 : tie.Need-same-length-4
 same-length-4 c = search needs
@@ -47,7 +47,7 @@ same-length-6 : tie.Need-same-length-6
 same-length-6 c = search needs
 
 returns-2 : tie.Need-returns-2
-returns-2 c = answered-is (given (c .before .before .before .before .before .before .before .before .before .before .before .before .before .before .before .before .before .before .before)) (c .before .before .before .before .before .before .before .before .before .serve .ensures) _ _ _ (c .before .length .given .1)
+returns-2 c = let said = c .before .before .before .before .before .before .before .before .before .serve .ensures in (answered-is (given (c .before .before .before .before .before .before .before .before .before .before .before .before .before .before .before .before .before .before .before)) (said .0) _ _ _ (c .before .length .given .1), said .1)
 
 pub dymosaw-request-spec : {M : Type 1} → statement M
 dymosaw-request-spec = tie.close (tie.spec serve-requires enum-known-number cast-result mul-result enum-known-length same-length same-length-2 same-length-3 returns same-length-4 same-length-5 same-length-6 returns-2)

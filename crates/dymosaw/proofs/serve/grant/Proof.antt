@@ -18,26 +18,23 @@ abbrev given : tie.Start → Lent
 given s = lent (s .args .table .now) (s .args .request .now) (s .args .host .now) (s .args .realm .now) (s .args .answer .now) (s .args .cancel .now)
 
 restriction-requires : tie.Need-restriction-requires
-restriction-requires c κs = let s = c .before .before .before .before .before .before .before in held-inside (s .pre .1)
+restriction-requires c κs = let s = c .before .before .before .before .before .before .before .before in held-inside (s .pre .1)
 
 uplink-requires : tie.Need-uplink-requires
-uplink-requires c κs = let s = c .before .before .before .before .before .before .before .before .before in held-inside (s .pre .1)
+uplink-requires c κs = let s = c .before .before .before .before .before .before .before .before .before .before in held-inside (s .pre .1)
 
 downlink-requires : tie.Need-downlink-requires
-downlink-requires c κs = let s = c .before .before .before .before .before .before .before .before .before .before .before in held-inside (s .pre .1)
+downlink-requires c κs = let s = c .before .before .before .before .before .before .before .before .before .before .before .before in held-inside (s .pre .1)
 
 bytes-in-requires : tie.Need-bytes-in-requires
-bytes-in-requires c κs = let s = c .before .before .before .before .before .before .before .before .before .before .before .before in s .pre .2 .host .inside
-
-bytes-in-requires-2 : tie.Need-bytes-in-requires-2
-bytes-in-requires-2 c κs = let s = c .before .before .before .before .before .before .before .before .before .before .before .before .before in s .pre .2 .imei .inside
+bytes-in-requires c κs = let s = c .before .before .before .before .before .before .before .before .before .before .before .before .before in s .pre .2 .imei .inside
 
 -- the sender's name and the IMEI's digits, as parts of the request
-sent : (c : tie.After-bytes-in2) → c .before .bytes-in .result .now ≡ sender (c .before .before .before .before .before .before .before .before .before .before .before .before .before .before .args .request .now)
-sent c = c .before .bytes-in .ensures ∙ c .before .before .before .before .before .before .before .before .before .before .before .before .before .before .pre .2 .host .same
+sent : (c : tie.After-bytes-in) → c .before .before .before .before .before .before .before .before .before .before .before .before .before .before .args .sender .now ≡ sender (c .before .before .before .before .before .before .before .before .before .before .before .before .before .before .args .request .now)
+sent c = c .before .before .before .before .before .before .before .before .before .before .before .before .before .before .pre .3
 
-digits-of : (c : tie.After-bytes-in2) → c .bytes-in2 .result .now ≡ imeiDigitsOf (c .before .before .before .before .before .before .before .before .before .before .before .before .before .before .args .request .now)
-digits-of c = c .bytes-in2 .ensures ∙ c .before .before .before .before .before .before .before .before .before .before .before .before .before .before .pre .2 .imei .same
+digits-of : (c : tie.After-bytes-in) → c .bytes-in .result .now ≡ imeiDigitsOf (c .before .before .before .before .before .before .before .before .before .before .before .before .before .before .args .request .now)
+digits-of c = c .bytes-in .ensures ∙ c .before .before .before .before .before .before .before .before .before .before .before .before .before .before .pre .2 .imei .same
 
 carry-out-requires : tie.Need-carry-out-requires
 carry-out-requires c κs =
@@ -57,7 +54,7 @@ did c =
 
 told : (c : tie.After-extra-of) → extraOf (c .extra-of .result) ≡ successItems (c .before .before .before .before .before .before .before .before .before .before .before .before .before .before .before .before .before .before .before .before .before .before .args .request .now) (recordOf (c .before .before .before .before .before .before .before .before .before .before .before .before .before .before .before .before .before .before .before .before .before .before .args .table .now) (c .before .before .before .before .before .before .before .before .before .before .before .before .before .before .before .before .before .before .before .before .before .before .args .i)) (carriedOut (c .before .before .before .before .before .before .before .before .before .before .before .before .before .before .before .before .before .before .before .before .before .before .args .request .now) (c .before .before .before .before .before .before .before .before .before .before .before .before .before .before .before .before .before .before .before .before .before .before .args .i) (c .before .before .before .before .before .before .before .before .before .before .before .before .before .before .before .before .before .before .before .before .before .before .args .table .now))
 told c =
-    let d = c .before .before .before .before .before .before .before .before .before .before in
+    let d = c .before .before .before .before .before .before .before .before .before in
     let u = d .before .before in
     let r = u .before .before in
     c .extra-of .ensures _ _ _ (c .before .before .before .before .before .before .before .before .before .before .before .before .before .before .before .before .before .before .before .before .before .before .pre .2 .asked) (r .restriction .ensures) (u .uplink .ensures) (d .downlink .ensures) (did (c .before .before .before .before .before) .flags)
@@ -87,4 +84,4 @@ returns c =
     granted (given s) (s .args .i) _ (s .pre .1) (did (c .before .before .before .before .before .before .before .before .before .before .before)) (told (c .before .before .before .before .before .before)) (c .before .before .before .before .put-answer .ensures) (c .entries-in .ensures)
 
 pub grant-spec : {M : Type 1} → statement M
-grant-spec = tie.close (tie.spec restriction-requires uplink-requires downlink-requires bytes-in-requires bytes-in-requires-2 carry-out-requires extra-of-requires put-answer-requires entries-in-requires same-length same-length-2 same-length-3 returns)
+grant-spec = tie.close (tie.spec restriction-requires uplink-requires downlink-requires bytes-in-requires carry-out-requires extra-of-requires put-answer-requires entries-in-requires same-length same-length-2 same-length-3 returns)

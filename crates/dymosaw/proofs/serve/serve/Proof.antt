@@ -1,5 +1,6 @@
--- `serve` meets its contract: 01's `outcome` of what was lent.
+-- `serve` meets its contract: 01's `outcome` of what was lent, which are bytes.
 -- Assumes nothing.
+use Rattle.wire.specs.Number.{Bytes}
 use Rattle.paper.specs.Outcome.{Lent}
 use Rattle.dymosaw.specs.Serve.{lent}
 use Rattle.dymosaw.proofs.ServeLaws.{silent-outcome, call-passed, judged-outcome}
@@ -9,6 +10,10 @@ use Rattle.dymosaw.proofs.serve.serve.Tie as tie
 
 abbrev given : tie.Start → Lent
 given s = lent (s .args .table .now) (s .args .request .now) (s .args .host .now) (s .args .realm .now) (s .args .answer .now) (s .args .cancel .now)
+
+-- what was lent are bytes
+bytes : (c : tie.After-shared-slice-known) → Bytes (c .before .before .args .request .now)
+bytes c i = c .shared-slice-known .given i .fits
 
 silent-number-requires : tie.Need-silent-number-requires
 silent-number-requires c κs = search needs
@@ -23,7 +28,7 @@ same-length-3 : tie.Need-same-length-3
 same-length-3 c = search needs
 
 returns : tie.Need-returns
-returns c = silent-outcome (given (c .before .before .before .before .before .before .before .before .before .before .before)) (c .before .silent-number .ensures) (c .if1 .taken)
+returns c = (silent-outcome (given (c .before .before .before .before .before .before .before .before .before .before .before)) (c .before .silent-number .ensures) (c .if1 .taken), bytes (c .before .before .before .before .before .before .before .before .before))
 
 serve-request-requires : tie.Need-serve-request-requires
 serve-request-requires c κs = call-passed (given (c .before .before .before .before .before .before .before .before .before .before .before .before .before .before)) (c .before .before .before .before .silent-number .ensures) (c .before .before .before .if1 .left)
@@ -38,7 +43,9 @@ same-length-6 : tie.Need-same-length-6
 same-length-6 c = search needs
 
 returns-2 : tie.Need-returns-2
-returns-2 c = judged-outcome (given (c .before .before .before .before .before .before .before .before .before .before .before .before .before .before .before .before .before .before .before .before .before)) (c .before .before .before .before .before .before .before .before .before .before .before .silent-number .ensures) (c .before .before .before .before .before .before .before .before .before .before .if1 .left) (c .before .before .before .before .before .before .serve-request .ensures)
+returns-2 c =
+    let k = c .before .before .before .before .before .before .before .before .before .before .before .before .before .before .before .before .before .before .before in
+    (judged-outcome (given (k .before .before)) (c .before .before .before .before .before .before .before .before .before .before .before .silent-number .ensures) (c .before .before .before .before .before .before .before .before .before .before .if1 .left) (c .before .before .before .before .before .before .serve-request .ensures), bytes k)
 
 pub serve-spec : {M : Type 1} → statement M
 serve-spec = tie.close (tie.spec silent-number-requires same-length same-length-2 same-length-3 returns serve-request-requires same-length-4 same-length-5 same-length-6 returns-2)

@@ -15,10 +15,7 @@ abbrev given : tie.Start → Lent
 given s = lent (s .args .table .now) (s .args .request .now) (s .args .host .now) (s .args .realm .now) (s .args .answer .now) (s .args .cancel .now)
 
 bytes-in-requires : tie.Need-bytes-in-requires
-bytes-in-requires c κs = c .before .before .before .before .before .before .pre .2 .host .inside
-
-bytes-in-requires-2 : tie.Need-bytes-in-requires-2
-bytes-in-requires-2 c κs = c .before .before .before .before .before .before .before .pre .2 .plmn .inside
+bytes-in-requires c κs = c .before .before .before .before .before .before .before .pre .2 .plmn .inside
 
 verdict-requires : tie.Need-verdict-requires
 verdict-requires c κs = c .before .before .before .before .before .before .before .before .before .pre .1
@@ -26,8 +23,8 @@ verdict-requires c κs = c .before .before .before .before .before .before .befo
 ruling : (c : tie.After-verdict) → codeOf (c .verdict .result) ≡ experimental (c .before .before .before .before .before .before .before .before .before .before .args .request .now) (recordOf (c .before .before .before .before .before .before .before .before .before .before .args .table .now) (c .before .before .before .before .before .before .before .before .before .before .args .i))
 ruling c =
     let b = c .before .before in
-    let a = c .before .before .before .before .before .before .before .before .before .before .pre .2 in
-    c .verdict .ensures _ (a .asked) (b .before .bytes-in .ensures ∙ a .host .same) (b .bytes-in2 .ensures ∙ a .plmn .same)
+    let p = c .before .before .before .before .before .before .before .before .before .before .pre in
+    c .verdict .ensures _ (p .2 .asked) (p .3) (b .bytes-in .ensures ∙ p .2 .plmn .same)
 
 enum-known-code : tie.Need-enum-known-code
 enum-known-code c = search needs
@@ -70,4 +67,4 @@ returns-2 c =
     fine-outcome (given s) (s .args .i) (ruling (c .before .before .before .before .before .before .before .before .before .before .before .before)) (c .before .before .before .before .before .before .before .before .before .before .enum-told .given .1) (c .before .before .before .before .before .before .grant .ensures)
 
 pub serve-record-spec : {M : Type 1} → statement M
-serve-record-spec = tie.close (tie.spec bytes-in-requires bytes-in-requires-2 verdict-requires enum-known-code put-refusal-requires enum-told grant-requires same-length same-length-2 same-length-3 returns same-length-4 same-length-5 same-length-6 returns-2)
+serve-record-spec = tie.close (tie.spec bytes-in-requires verdict-requires enum-known-code put-refusal-requires enum-told grant-requires same-length same-length-2 same-length-3 returns same-length-4 same-length-5 same-length-6 returns-2)

@@ -27,22 +27,18 @@ value-of-requires c κs = search needs
 value-of-requires-2 : tie.Need-value-of-requires-2
 value-of-requires-2 c κs = search needs
 
-value-of-requires-3 : tie.Need-value-of-requires-3
-value-of-requires-3 c κs = search needs
-
 span-of-requires : tie.Need-span-of-requires
 span-of-requires c κs = search needs
 
 returns : tie.Need-returns
 returns c =
-    let e = c .before .before .before .before .before in
+    let e = c .before .before .before .before in
     let s = e .before .before .before .before .before in
     let m = s .args .m .now in
     record {
-      asked = c .before .before .before .before .asked-of .ensures;
-      user = c .before .before .before .value-of .ensures;
-      host = c .before .before .value-of2 .ensures;
-      plmn = c .before .value-of3 .ensures;
+      asked = c .before .before .before .asked-of .ensures;
+      user = c .before .before .value-of .ensures;
+      plmn = c .before .value-of2 .ensures;
       imei = sought-span m (imeiOf m) (imei-standing m (s .pre .0)) (e .find-imei .ensures) (c .span-of .ensures);
     }
 
@@ -56,6 +52,5 @@ accept-spec =
     asked-of-requires
     value-of-requires
     value-of-requires-2
-    value-of-requires-3
     span-of-requires
     returns)
