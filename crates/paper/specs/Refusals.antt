@@ -1,5 +1,5 @@
 -- Promise: a refusal is given in its stated case only. 01's two tables and its Experimental results as one list of cases in their order,
--- each in the words of the paper; what is said of a request is what the first case that holds says. Assumes nothing.
+-- each in the words of the paper and by its own numbers and places; what is said of a request is what the first case that holds says. Assumes nothing.
 use mathlib.Core.Path.{_≡_}
 use mathlib.Core.Logic.{_↔_}
 use mathlib.Core.Bool.{Bool, true, false, cond, _&&_, _||_, not}
