@@ -20,7 +20,7 @@ use Rattle.paper.proofs.AvpsLaws.{Each, each-map}
 use Rattle.paper.proofs.VisitLaws.{Found, found-none, fault, Shows, Reaches, avp-shows, list-shows}
 use Rattle.paper.proofs.FirstLaws.{among-each, bodyEnd, Lies, avps-lie, body-behind, Inside, Before, lies-each, NoLater, placeOf}
 
--- an answer sees all of the data
+-- the visit of a request sees all of the data
 abbrev data-seen : ℕ → ℕ → List ℕ → List ℕ
 data-seen vendor code x = x
 
@@ -40,46 +40,39 @@ module _ (m : List ℕ) where
   abbrev IsFault : Faulty → Type 0
   IsFault f = Faults m (f .code) (f .shown .at) (f .shown .end)
 
-  -- an AVP of a visited list inside `d` groups, and what breaks one
-  record Visited (left : ℕ) (p : Placed) : Type 0 where
+  -- an AVP of a visited list, or what breaks one off, where `left` groups may still be entered
+  record Visited (In : Avps → Placed → Type 0) (left : ℕ) (p : Placed) : Type 0 where
     depth : ℕ
     list : Avps
     visits : Visits m depth list
-    among : Among list p
+    there : In list p
     sum : depth + left ≡ 8
 
-  record Broken (left : ℕ) (p : Placed) : Type 0 where
-    depth : ℕ
-    list : Avps
-    visits : Visits m depth list
-    breaks : BreaksAt list p
-    sum : depth + left ≡ 8
-
-  visited-each : (left d : ℕ) (l : Avps) → d + left ≡ 8 → Visits m d l → Each (Visited left) (Broken left) l
+  visited-each : (left d : ℕ) (l : Avps) → d + left ≡ 8 → Visits m d l → Each (Visited Among left) (Visited BreaksAt left) l
   visited-each left d l e v =
-      each-map (λ p a. record { depth = d; list = l; visits = v; among = a; sum = e }) (λ p b. record { depth = d; list = l; visits = v; breaks = b; sum = e }) l (among-each l)
+      each-map (λ p t. record { depth = d; list = l; visits = v; there = t; sum = e }) (λ p t. record { depth = d; list = l; visits = v; there = t; sum = e }) l (among-each l)
 
-  wrong-size : (k : Kind) (left : ℕ) (p : Placed) → Visited left p → kindAt p ≡ k → sizeRight k (length (p .avp .body)) ≡ false → IsFault (fault 5014 (bare p))
-  wrong-size Four left p t k e = not-four (t .visits) (t .among) k (eqb-false _ 4 e)
-  wrong-size Eight left p t k e = not-eight (t .visits) (t .among) k (eqb-false _ 8 e)
+  wrong-size : (k : Kind) (left : ℕ) (p : Placed) → Visited Among left p → kindAt p ≡ k → sizeRight k (length (p .avp .body)) ≡ false → IsFault (fault 5014 (bare p))
+  wrong-size Four left p t k e = not-four (t .visits) (t .there) k (eqb-false _ 4 e)
+  wrong-size Eight left p t k e = not-eight (t .visits) (t .there) k (eqb-false _ 8 e)
   wrong-size Any left p t k e = absurd (false≢true (sym e))
   wrong-size Group left p t k e = absurd (false≢true (sym e))
   wrong-size Closed left p t k e = absurd (false≢true (sym e))
   wrong-size Unknown left p t k e = absurd (false≢true (sym e))
 
-  visited-on : Reaches kindOf IsFault (Mandatory m) Visited Broken
+  visited-on : Reaches kindOf IsFault (Mandatory m) (Visited Among) (Visited BreaksAt)
   visited-on =
       record {
-        mandatory = λ left p t k e. Firsts.unknown (t .visits) (t .among) k e;
+        mandatory = λ left p t k e. Firsts.unknown (t .visits) (t .there) k e;
         size = λ left p t e. wrong-size (kindAt p) left p t refl e;
-        breaks = λ left p t. no-avp (t .visits) (t .breaks);
-        deep = λ p t k. let d : t .depth ≡ 8 = let s = t .sum in omega arith in too-deep (subst (λ (d : ℕ). Visits m d (t .list)) d (t .visits)) (t .among) k;
-        enters = λ left p t k. let s = t .sum in visited-each left (suc (t .depth)) (insideOf p) (omega arith) (within (t .visits) (t .among) k (omega arith));
+        breaks = λ left p t. no-avp (t .visits) (t .there);
+        deep = λ p t k. let d : t .depth ≡ 8 = let s = t .sum in omega arith in too-deep (subst (λ (d : ℕ). Visits m d (t .list)) d (t .visits)) (t .there) k;
+        enters = λ left p t k. let s = t .sum in visited-each left (suc (t .depth)) (insideOf p) (omega arith) (within (t .visits) (t .there) k (omega arith));
       }
 
   message-shows : Shows IsFault (Mandatory m) (viewOf m)
   unfolding viewOf view
-  message-shows = list-shows kindOf data-seen IsFault (Mandatory m) Visited Broken visited-on mostGroups (topOf m) (visited-each 8 0 (topOf m) refl top)
+  message-shows = list-shows kindOf data-seen IsFault (Mandatory m) (Visited Among) (Visited BreaksAt) visited-on mostGroups (topOf m) (visited-each 8 0 (topOf m) refl top)
 
 -- ---- places: what the visit of an AVP finds stands between its head and the end of its data
 

@@ -23,7 +23,7 @@ Found {A} P o = (x : A) → o ≡ some x → P x
 pub found-none : {A : Type 0} (P : A → Type 0) → Found P none
 found-none P x e = let z : _≡_ {A = ℕ} 0 1 = cc in absurd (omega arith)
 
-pub found-some : {A : Type 0} (P : A → Type 0) (y : A) → P y → Found P (some y)
+found-some : {A : Type 0} (P : A → Type 0) (y : A) → P y → Found P (some y)
 found-some P y h x e = let r : y ≡ x = cc in subst P r h
 
 found-orElse : {A : Type 0} (P : A → Type 0) (a b : Option A) → Found P a → Found P b → Found P (orElse a b)
@@ -58,7 +58,7 @@ module _ (F : Faulty → Type 0) (U : Placed → Type 0) where
       }
 
   -- of a list whose AVPs are `P`, and what breaks it `Q`
-  pub each-shows : (P Q : Placed → Type 0) (one : Placed → View) → ((p : Placed) → P p → Shows F U (one p)) → ((p : Placed) → Q p → F (fault 5014 p))
+  each-shows : (P Q : Placed → Type 0) (one : Placed → View) → ((p : Placed) → P p → Shows F U (one p)) → ((p : Placed) → Q p → F (fault 5014 p))
       → (l : Avps) → Each P Q l → Shows F U (each one l)
   unfolding each
   each-shows P Q one h g whole e = nothing-shows
