@@ -11,7 +11,7 @@ use lib.ListN.{length}
 use borrow.Author.Tests.{eqb-true, leb-true}
 use Rattle.wire.specs.Stretch.{digits}
 use Rattle.wire.proofs.ListLaws.{and-true-left, and-true-right}
-use Rattle.paper.specs.Layout.{imsiSize, mostDigits}
+use Rattle.paper.specs.Layout.{imsiSize, leastImsi, mostDigits}
 use Rattle.paper.specs.Reader.{Placed, Avps}
 use Rattle.paper.specs.Find.{bodyFound}
 use Rattle.paper.specs.Profile.{Key, Command, commands, commandIn, commandOf, userName, originHost, visitedPlmnId}
@@ -111,7 +111,8 @@ module _ (m : List ℕ) (n : refusal m ≡ none) where
   unfolding imsiDigits
   user-few =
       let x = valueOf userName m in
-      leb-true (length x) 15 (and-true-right (leb 6 (length x)) (leb (length x) 15) (and-true-left (leb 6 (length x) && leb (length x) 15) (digits x) user-digits))
+      leb-true (length x) mostDigits
+      (and-true-right (leb leastImsi (length x)) (leb (length x) mostDigits) (and-true-left (leb leastImsi (length x) && leb (length x) mostDigits) (digits x) user-digits))
 
   -- the IMSI "as stored" has 16 bytes
   pub length-imsi : length (imsiField m) ≡ imsiSize

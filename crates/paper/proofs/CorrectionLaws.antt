@@ -47,6 +47,12 @@ value-fields k v r restriction e = ap (λ (x : List ℕ). put restrictionAt x r)
 value-fields k v r plmns e = ap (λ (x : List ℕ). put plmnsAt x (put plmnCountAt (take 1 v) r)) (whole-take 24 (drop 1 v) (simp length-drop (omega arith)))
 value-fields k v r ambr e = ap (λ (x : List ℕ). put ambrAt x r) (whole-take 8 v e)
 
+pub length-value : (k : ℕ) (v r : List ℕ) → Corrects k → length v ≡ valueSize k → length r ≡ recordSize → length (withValue k v r) ≡ recordSize
+length-value k v r kind sized long =
+    ap length (value-fields k v r kind sized)
+    ∙ length-putFields (fieldsOfKind k) v r (changeAt + 4) (kind-fields k kind .0 ∙ sym sized) (rw long (kind-fields k kind .1))
+    ∙ long
+
 -- ---- the record that a correction leaves
 
 -- the value `v` of kind `k`, and `n` as the change number
@@ -65,7 +71,7 @@ module _ (k n : ℕ) (v r : List ℕ) (kind : Corrects k) (sized : length v ≡ 
   valued = withValue k v r
 
   valued-long : length valued ≡ recordSize
-  valued-long = ap length (value-fields k v r kind sized) ∙ length-putFields (fieldsOfKind k) v r (changeAt + 4) fields-size fields-ascend ∙ long
+  valued-long = length-value k v r kind sized long
 
   record-change : changeOf (correctedRecord k v n r) ≡ n
   unfolding correctedRecord

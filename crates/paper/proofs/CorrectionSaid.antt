@@ -16,11 +16,14 @@ use Rattle.wire.specs.Put.{part}
 use Rattle.wire.specs.Stretch.{same}
 use Rattle.wire.proofs.StretchLaws.{same-true, same-equal, same-differ}
 use Rattle.paper.specs.Table.{recordRight, recordOf, countOf, imsiOf, allBelow, valid, lookup, changeOf}
+use Rattle.paper.specs.TableSaid.{RecordSaid}
 use Rattle.paper.specs.Correction.{frameHead, frameVersion, frameKind, frameImsi, frameSeen, frameValue, valueSize, valueRight, corrected}
 use Rattle.paper.specs.Clerks.{recordAtPlace, recordWith, isNone, noRecord, cases, FirstThatHolds, withValue, ValueJudged}
 use Rattle.paper.proofs.StoreLaws.{Corrects, subscription, restriction, plmns, ambr, corrects}
 use Rattle.paper.proofs.TableLaws.{allBelow-intro, allBelow-false, valid-parts, part-of-record, number-of-record, imsi-once, lookup-some, none-found}
+use Rattle.paper.proofs.TableSaid.{record-said, said-record}
 use Rattle.paper.proofs.ValueLaws.{value-judged, plain-judged}
+use Rattle.paper.proofs.CorrectionLaws.{length-value}
 use Rattle.paper.proofs.CorrectionCases.{firstNumber, positive, first-number, number-first, none-number, number-none, tests, corrected-number, refused-alters-nothing}
 
 -- two tests that agree, and what follows where they fail
@@ -168,25 +171,30 @@ module _ (t f : List ℕ) (n : ℕ) (z : (m : ℕ) → 4 ≤ m → m ≤ 14 → 
       let e₅ = behind (not (eqb (length f) (frameHead + valueSize (frameKind f)))) 14 _ n (e₄ .1) (z 14 (omega arith) (omega arith)) in
       (corrects (frameKind f) (e₄ .0), value-sized f (e₅ .0), e₅ .1)
 
-  value-in : (r : List ℕ) → length r ≡ 256 → recordRight r ≡ true → recordRight (withValue (frameKind f) (frameValue f) r) ≡ value
-  value-in r long right = let p = passed-to-value in value-judged (frameKind f) (frameValue f) r (p .0) (p .1) long right
+  abbrev valued : List ℕ → List ℕ
+  valued r = withValue (frameKind f) (frameValue f) r
 
-  value-refused : n ≡ 15 → value ≡ false
-  value-refused q = fifteen value absent seen (passed-to-value .2 ∙ q)
+  valued-long : (r : List ℕ) → length r ≡ 256 → length (valued r) ≡ 256
+  valued-long r long = let p = passed-to-value in length-value (frameKind f) (frameValue f) r (p .0) (p .1) long
 
-  value-kept : 15 ≢ n → value ≡ true
-  value-kept q = not-false _ (behind (not value) 15 _ n (passed-to-value .2) q .0)
+  value-in : (r : List ℕ) → length r ≡ 256 → RecordSaid r → recordRight (valued r) ≡ value
+  value-in r long right = let p = passed-to-value in value-judged (frameKind f) (frameValue f) r (p .0) (p .1) long (said-record r long right)
+
+  value-breaks : n ≡ 15 → (r : List ℕ) → length r ≡ 256 → RecordSaid r → RecordSaid (valued r) → ⊥
+  value-breaks q r long right again =
+      true≢false (sym (said-record (valued r) (valued-long r long) again) ∙ value-in r long right ∙ fifteen value absent seen (passed-to-value .2 ∙ q))
+
+  value-keeps : 15 ≢ n → (r : List ℕ) → length r ≡ 256 → RecordSaid r → RecordSaid (valued r)
+  value-keeps q r long right =
+      record-said (valued r) (valued-long r long) (value-in r long right ∙ not-false _ (behind (not value) 15 _ n (passed-to-value .2) q .0))
 
 -- a refused value breaks every right record, any other keeps every right record right
 pub value-of-correction : (t f : List ℕ) → ValueJudged f (corrected t f)
 value-of-correction t f =
     record {
-      breaks = λ e r long right. value-in t f 15 (λ m a b q. omega arith) e r long right ∙ value-refused t f 15 (λ m a b q. omega arith) e refl;
+      breaks = λ e. value-breaks t f 15 (λ m a b q. omega arith) e refl;
       keeps = ⊎-elim (kept 0 (λ m a b q. omega arith)) (⊎-elim (kept 16 (λ m a b q. omega arith)) (kept 17 (λ m a b q. omega arith)));
     }
   where
-    kept : (n : ℕ) → ((m : ℕ) → 4 ≤ m → m ≤ 15 → m ≢ n) → corrected t f .number ≡ n → (r : List ℕ) → length r ≡ 256 → recordRight r ≡ true
-        → recordRight (withValue (frameKind f) (frameValue f) r) ≡ true
-    kept n z e r long right =
-        let below : (m : ℕ) → 4 ≤ m → m ≤ 14 → m ≢ n = λ m a b. z m a (omega arith) in
-        value-in t f n below e r long right ∙ value-kept t f n below e (z 15 (omega arith) (omega arith))
+    kept : (n : ℕ) → ((m : ℕ) → 4 ≤ m → m ≤ 15 → m ≢ n) → corrected t f .number ≡ n → (r : List ℕ) → length r ≡ 256 → RecordSaid r → RecordSaid (withValue (frameKind f) (frameValue f) r)
+    kept n z e = value-keeps t f n (λ m a b. z m a (omega arith)) e (z 15 (omega arith) (omega arith))

@@ -16,7 +16,7 @@ use Rattle.wire.specs.Stretch.{nameBytes, digits, zeros}
 use Rattle.wire.proofs.ListLaws.{and-true-left, and-true-right, and-true-both, getD-part, part-part}
 use Rattle.wire.proofs.PutLaws.{length-put, part-put, put-before, put-after}
 use Rattle.wire.proofs.StretchLaws.{allIn-take, allIn-replicate}
-use Rattle.paper.specs.Layout.{recordSize, imsiSize, changeAt, subscriptionAt, restrictionAt, plmnCountAt, plmnsAt, plmnSize, mostPlmns, purgedAt, mmeAt, sgsnAt, mostName, ambrAt, imeiAt, mostDigits}
+use Rattle.paper.specs.Layout.{recordSize, imsiSize, changeAt, subscriptionAt, restrictionAt, plmnCountAt, plmnsAt, plmnSize, mostPlmns, purgedAt, mmeAt, sgsnAt, mostName, ambrAt, imeiAt, leastImei, mostDigits}
 use Rattle.paper.specs.Table.{Rule, counted, imsiRight, twoBits, plmnCountRight, plmnsRight, bitAt, nameRight, purgedRight, imeiRight, rules, allHold, recordRight, Slot, mme, sgsn}
 use Rattle.paper.specs.Fields.{filled, withBit, withoutBit}
 use Rattle.paper.proofs.RecordLaws.{range, apart, apartFrom, allApart, differ-put, differ-then, counted-own, watched, touched, right-again, imei-count, name-count}
@@ -347,17 +347,17 @@ node-right slot name r node few good long right =
 
 -- ---- the IMEI
 
-imei-counted : (imei : List ℕ) → eqb (length imei) 14 || eqb (length imei) 15 ≡ true → eqb (length imei) 0 || (eqb (length imei) 14 || eqb (length imei) 15) ≡ true
+imei-counted : (imei : List ℕ) → eqb (length imei) leastImei || eqb (length imei) mostDigits ≡ true → eqb (length imei) 0 || (eqb (length imei) leastImei || eqb (length imei) mostDigits) ≡ true
 imei-counted imei size = rw size (or-true (eqb (length imei) 0))
 
-pub imei-size : (imei : List ℕ) → eqb (length imei) 14 || eqb (length imei) 15 ≡ true → length imei ≤ mostDigits
+pub imei-size : (imei : List ℕ) → eqb (length imei) leastImei || eqb (length imei) mostDigits ≡ true → length imei ≤ mostDigits
 imei-size imei size = imei-count (length imei) (imei-counted imei size)
 
-pub imei-right : (imei r : List ℕ) → eqb (length imei) 14 || eqb (length imei) 15 ≡ true → digits imei ≡ true → length r ≡ recordSize → recordRight r ≡ true
+pub imei-right : (imei r : List ℕ) → eqb (length imei) leastImei || eqb (length imei) mostDigits ≡ true → digits imei ≡ true → length r ≡ recordSize → recordRight r ≡ true
     → recordRight (put imeiAt (filled mostDigits imei) r) ≡ true
 unfolding touched watched allApart apartFrom apart allHold imeiRight
 imei-right imei r size good long right =
     let c = imei-counted imei size in
     let n : length (filled mostDigits imei) ≡ 1 + mostDigits = length-filled mostDigits imei (imei-size imei size) in
     right-again (range imeiAt (1 + mostDigits) ∷ []) r (put imeiAt (filled mostDigits imei) r) (differ-put imeiAt (1 + mostDigits) (filled mostDigits imei) r n (omega arith)) right
-    (rw (field-filled (λ k. eqb k 0 || (eqb k 14 || eqb k 15)) digits mostDigits imeiAt imei r imei-count (omega arith) c good))
+    (rw (field-filled (λ k. eqb k 0 || (eqb k leastImei || eqb k mostDigits)) digits mostDigits imeiAt imei r imei-count (omega arith) c good))

@@ -13,7 +13,7 @@ use Rattle.wire.specs.Put.{part}
 use Rattle.wire.specs.Stretch.{nameBytes, digits}
 use Rattle.wire.proofs.ListLaws.{and-true-left, and-true-right, and-true-both}
 use Rattle.wire.proofs.PutLaws.{put-after}
-use Rattle.paper.specs.Layout.{recordSize, imsiAt, imsiSize, changeAt, purgedAt, mmeAt, sgsnAt, mostName, imeiAt, mostDigits, mostEntries, cancelSize}
+use Rattle.paper.specs.Layout.{recordSize, imsiAt, imsiSize, changeAt, purgedAt, mmeAt, sgsnAt, mostName, imeiAt, leastImei, mostDigits, mostEntries, cancelSize}
 use Rattle.paper.specs.Table.{recordRight, recordAt, recordOf, countOf, imsiOf, valid, Slot, mme, sgsn, lookup, store}
 use Rattle.paper.specs.Fields.{filled, withBit, withoutBit, purgedOf, storeNode, storePurged, storeImei}
 use Rattle.paper.specs.Reader.{Placed}
@@ -42,13 +42,13 @@ name-parts x e =
       bytes = and-true-right (leb 1 (length x) && leb (length x) mostName) (nameBytes x) e;
     }
 
-pub imei-sizes : (x : List ℕ) → imeiDigits x ≡ true → eqb (length x) 14 || eqb (length x) 15 ≡ true
+pub imei-sizes : (x : List ℕ) → imeiDigits x ≡ true → eqb (length x) leastImei || eqb (length x) mostDigits ≡ true
 unfolding imeiDigits
-imei-sizes x e = and-true-left (eqb (length x) 14 || eqb (length x) 15) (digits x) e
+imei-sizes x e = and-true-left (eqb (length x) leastImei || eqb (length x) mostDigits) (digits x) e
 
 pub imei-bytes : (x : List ℕ) → imeiDigits x ≡ true → digits x ≡ true
 unfolding imeiDigits
-imei-bytes x e = and-true-right (eqb (length x) 14 || eqb (length x) 15) (digits x) e
+imei-bytes x e = and-true-right (eqb (length x) leastImei || eqb (length x) mostDigits) (digits x) e
 
 -- ---- a table with one record changed
 

@@ -14,7 +14,7 @@ use Rattle.wire.specs.Put.{part, put}
 use Rattle.wire.specs.Stretch.{nameBytes, digits, zeros}
 use Rattle.wire.proofs.ListLaws.{and-true-left, and-true-right, and-true-both, getD-part, part-part}
 use Rattle.wire.proofs.PutLaws.{part-other}
-use Rattle.paper.specs.Layout.{imsiAt, imsiSize, subscriptionAt, plmnCountAt, plmnsAt, plmnSize, mostPlmns, purgedAt, mmeAt, sgsnAt, mostName, imeiAt, mostDigits}
+use Rattle.paper.specs.Layout.{imsiAt, imsiSize, subscriptionAt, plmnCountAt, plmnsAt, plmnSize, mostPlmns, purgedAt, mmeAt, sgsnAt, mostName, imeiAt, leastImsi, leastImei, mostDigits}
 use Rattle.paper.specs.Table.{Rule, counted, unlisted, imsiRight, twoBits, plmnCountRight, plmnsRight, nameRight, purgedRight, imeiRight, rules, allHold, recordRight}
 
 -- ---- ranges of a record
@@ -130,17 +130,17 @@ looks-counted count bytes most at small r r′ s =
 
 -- ---- the counts of 01's counted fields are at most what the field holds
 
-pub imsi-count : (n : ℕ) → leb 6 n && leb n mostDigits ≡ true → n ≤ mostDigits
-imsi-count n e = leb-true n mostDigits (and-true-right (leb 6 n) (leb n mostDigits) e)
+pub imsi-count : (n : ℕ) → leb leastImsi n && leb n mostDigits ≡ true → n ≤ mostDigits
+imsi-count n e = leb-true n mostDigits (and-true-right (leb leastImsi n) (leb n mostDigits) e)
 
 pub name-count : (n : ℕ) → leb n mostName ≡ true → n ≤ mostName
 name-count n e = leb-true n mostName e
 
-pub imei-count : (n : ℕ) → eqb n 0 || (eqb n 14 || eqb n 15) ≡ true → n ≤ mostDigits
+pub imei-count : (n : ℕ) → eqb n 0 || (eqb n leastImei || eqb n mostDigits) ≡ true → n ≤ mostDigits
 imei-count n e =
     ⊎-elim (λ z. let h = eqb-true n 0 z in omega arith)
-    (λ o. ⊎-elim (λ z. let h = eqb-true n 14 z in omega arith) (λ z. let h = eqb-true n 15 z in omega arith) (or-cases (eqb n 14) (eqb n 15) o))
-    (or-cases (eqb n 0) (eqb n 14 || eqb n 15) e)
+    (λ o. ⊎-elim (λ z. let h = eqb-true n leastImei z in omega arith) (λ z. let h = eqb-true n mostDigits z in omega arith) (or-cases (eqb n leastImei) (eqb n mostDigits) o))
+    (or-cases (eqb n 0) (eqb n leastImei || eqb n mostDigits) e)
 
 -- ---- every rule with the ranges that it looks at
 

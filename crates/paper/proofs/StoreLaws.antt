@@ -13,7 +13,7 @@ use Rattle.wire.specs.Number.{be}
 use Rattle.wire.specs.Put.{put}
 use Rattle.wire.specs.Stretch.{allIn, nameBytes, digits}
 use Rattle.wire.proofs.PutLaws.{length-put}
-use Rattle.paper.specs.Layout.{recordSize, imsiSize, changeAt, subscriptionAt, restrictionAt, plmnCountAt, plmnsAt, purgedAt, mostName, ambrAt, imeiAt, mostDigits}
+use Rattle.paper.specs.Layout.{recordSize, imsiSize, changeAt, subscriptionAt, restrictionAt, plmnCountAt, plmnsAt, purgedAt, mostName, ambrAt, imeiAt, leastImei, mostDigits}
 use Rattle.paper.specs.Table.{recordRight, recordAt, recordOf, countOf, imsiOf, valid, Slot, store}
 use Rattle.paper.specs.Fields.{filled, withoutBit, purgedOf, storeNode, storePurged, storeImei}
 use Rattle.paper.specs.Correction.{valueSize, valueRight, storeValue}
@@ -82,7 +82,7 @@ module _ (i : ℕ) (t : List ℕ) (e : valid t ≡ true) (h : i < countOf t) whe
   purged-valid slot node named = stored purgedAt _ (omega arith) (omega arith) (purged-right slot (recordOf t i) node long-valid named right-valid)
 
   -- "IMEI, if there, is stored."
-  pub imei-valid : (imei : List ℕ) → eqb (length imei) 14 || eqb (length imei) 15 ≡ true → digits imei ≡ true → valid (storeImei i imei t) ≡ true
+  pub imei-valid : (imei : List ℕ) → eqb (length imei) leastImei || eqb (length imei) mostDigits ≡ true → digits imei ≡ true → valid (storeImei i imei t) ≡ true
   unfolding storeImei
   imei-valid imei size good =
       let n = length-filled mostDigits imei (imei-size imei size) in

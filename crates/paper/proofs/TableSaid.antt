@@ -90,7 +90,7 @@ imei-counts n = (
 )
 
 module _ (r : List ℕ) (long : length r ≡ 256) where
-  record-said : recordRight r ≡ true → RecordSaid r
+  pub record-said : recordRight r ≡ true → RecordSaid r
   unfolding imsiRight twoBits plmnCountRight plmnsRight purgedRight nameRight imeiRight
   record-said e =
       let p = right-parts r e in
@@ -128,7 +128,7 @@ module _ (r : List ℕ) (long : length r ≡ 256) where
         unlisted-220 = zero-said 220 36 255 r refl (omega arith) (p .unlisted-220);
       }
 
-  said-record : RecordSaid r → recordRight r ≡ true
+  pub said-record : RecordSaid r → recordRight r ≡ true
   unfolding imsiRight twoBits plmnCountRight plmnsRight purgedRight nameRight imeiRight
   said-record s =
       let digits-counted = and-true-both (leb 6 (getD r 0 0)) _ (le-leb 6 (getD r 0 0) (s .imsi-count .0)) (le-leb (getD r 0 0) 15 (s .imsi-count .1)) in

@@ -13,6 +13,7 @@ use Rattle.wire.specs.Number.{numAt}
 use Rattle.wire.specs.Put.{part, put}
 use Rattle.wire.specs.Stretch.{same}
 use Rattle.paper.specs.Table.{recordRight, allBelow, valid, lookup, recordOf}
+use Rattle.paper.specs.TableSaid.{RecordSaid}
 use Rattle.paper.specs.Correction.{Corrected, corrected}
 
 -- ---- the cases of refusal
@@ -86,12 +87,11 @@ pub record FirstThatHolds (t f : List ℕ) (x : Corrected) : Type 0 where
   pub success : (x .number ≡ 0) ↔ (noneHolds t f cases ≡ true)
   pub unchanged : x .number ≢ 0 → x .table ≡ t
 
--- "15 value not valid in a table": the value that a frame has behind byte 23, of the kind in byte 3, is refused for what it would do to any right record.
--- Number 15 says that it breaks a rule of the table wherever it is stored; the numbers behind 15, and success, that it breaks none.
+-- "15 value not valid in a table": the value that a frame has from byte 24 on, of the kind in byte 3, is judged by what it would do to a right record.
+-- Number 15 says that stored in any right record it breaks what 01 says of a record; the numbers behind 15, and success, that it breaks it in none.
 pub record ValueJudged (f : List ℕ) (x : Corrected) : Type 0 where
-  pub breaks : x .number ≡ 15 → (r : List ℕ) → length r ≡ 256 → recordRight r ≡ true → recordRight (withValue (getD f 3 0) (drop 24 f) r) ≡ false
-  pub keeps : (x .number ≡ 0) ⊎ ((x .number ≡ 16) ⊎ (x .number ≡ 17)) → (r : List ℕ) → length r ≡ 256 → recordRight r ≡ true
-      → recordRight (withValue (getD f 3 0) (drop 24 f) r) ≡ true
+  pub breaks : x .number ≡ 15 → (r : List ℕ) → length r ≡ 256 → RecordSaid r → RecordSaid (withValue (getD f 3 0) (drop 24 f) r) → ⊥
+  pub keeps : (x .number ≡ 0) ⊎ ((x .number ≡ 16) ⊎ (x .number ≡ 17)) → (r : List ℕ) → length r ≡ 256 → RecordSaid r → RecordSaid (withValue (getD f 3 0) (drop 24 f) r)
 
 -- ---- what an accepted correction alters
 
