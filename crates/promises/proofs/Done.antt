@@ -1,18 +1,20 @@
 -- Promises 4, 5 and 8, of calls: by paper's theorems over `outcome` and `corrected`.
 -- Assumes nothing.
-use mathlib.Core.Path.{_≡_}
+use mathlib.Core.Path.{_≡_, refl, sym, ap, _∙_}
 use mathlib.Core.Logic.{_↔_, _≢_}
-use mathlib.Core.Bool.{true, false}
+use mathlib.Core.Bool.{Bool, true, false, cond}
 use mathlib.Core.List.{List}
 use Prim.Native.Nat.{ℕ, _≤_}
 use lib.ListN.{take}
 use Rattle.paper.specs.Clerks.{recordWith, FirstThatHolds, Alters}
+use Rattle.paper.specs.Find.{originHost}
 use Rattle.paper.specs.Layout.{mostEntries}
 use Rattle.paper.specs.Outcome.{Lent, Outcome}
-use Rattle.paper.specs.Procedures.{Entry, imsiField, isUlr, isPur, isNor, onS6a}
+use Rattle.paper.specs.Procedures.{Entry, sender, imsiField, isUlr, isPur, isNor, onS6a}
 use Rattle.paper.specs.Promises.{UpdatesOnS6a, UpdatesOnS6d, AnswersUlr, PurgesUe, Notifies}
 use Rattle.paper.specs.Read.{entriesIn}
 use Rattle.paper.specs.Refusals.{Said, number, result, experimental, said, refusals, First}
+use Rattle.paper.specs.Table.{mme, sgsn, nameOf}
 use Rattle.paper.specs.Untouched.{OnlyItsRecord, NoRecord, NoByte}
 use Rattle.paper.proofs.CorrectionCases.{corrected-cases}
 use Rattle.paper.proofs.CorrectionLaws.{accepted-alters}
@@ -23,7 +25,8 @@ use Rattle.paper.proofs.PromisePur as paper-pur
 use Rattle.paper.proofs.PromiseRefusals as paper-refusals
 use Rattle.paper.proofs.PromiseUlr as paper-ulr
 use Rattle.paper.proofs.PromiseUntouched as paper-untouched
-use Rattle.promises.specs.Promises.{UlrOnS6a, UlrOnS6d, UlrAnswered, PurPurges, NorNotifies, FirstThatApplies, CorrectionCases, OnlyItsRecordTouched, AnswerShort, ResultTouchesNothing, ExperimentalTouchesNothing, NumberTouchesNothing, CorrectionAlters}
+use Rattle.dymosaw.proofs.ReplyLaws.{host-sent}
+use Rattle.promises.specs.Promises.{after, UlrOnS6a, UlrOnS6d, UlrAnswered, PurPurges, NorNotifies, HostStored, FirstThatApplies, CorrectionCases, OnlyItsRecordTouched, AnswerShort, ResultTouchesNothing, ExperimentalTouchesNothing, NumberTouchesNothing, CorrectionAlters}
 use Rattle.promises.proofs.CallLaws.{of-call, of-correction}
 
 -- ---- what a promise reads of a request, its table before and its outcome
@@ -58,6 +61,13 @@ pur-purges = of-call (λ l o. said o ≡ result 2001 → isPur (l .request) ≡ 
 
 pub nor-notifies : NorNotifies
 nor-notifies = of-call (λ l o. said o ≡ result 2001 → isNor (l .request) ≡ true → Notifies (l .request) (was l) (is l o) (list o)) paper-nor.nor-notifies
+
+pub host-stored : HostStored
+host-stored c h s u e = go (onS6a (c .lent .request)) refl ∙ sym (h .met ∙ ap originHost e ∙ host-sent (c .lent .request))
+  where
+    go : (b : Bool) → onS6a (c .lent .request) ≡ b → nameOf (cond b mme sgsn) (after c) ≡ sender (c .lent .request)
+    go true o = ulr-on-s6a c s u o .name-stored
+    go false o = ulr-on-s6d c s u o .name-stored
 
 -- ---- 5. Refusals
 
