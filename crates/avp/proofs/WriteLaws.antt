@@ -6,19 +6,22 @@ use mathlib.Core.List.{List, [], _∷_, _++_, append-nil}
 use Prim.Native.Nat.{ℕ, _+_, _-_, _*_, _/_, _%_, _^_, _≤_, _<_}
 use native.Mathlib.Omega.{arith}
 use lib.ListN.{length, drop, replicate, length-append, length-replicate}
-use lib.Dec.{eqb}
+use lib.Dec.{ltb, leb, eqb}
+use borrow.Author.Tests.{le-ltb, lt-ltb, le-leb, lt-leb}
 use Rattle.wire.specs.Number.{be}
 use Rattle.wire.specs.Put.{Wrote}
 use Rattle.wire.proofs.NumberLaws.{be-append}
+use Rattle.wire.proofs.ListLaws.{and-false-left, and-false-right}
 use Rattle.wire.proofs.PutLaws.{wrote-then, wrote-under, wrote-same}
 use Rattle.paper.specs.Avp.{hasV, headSize, padded, vendorField, avpOf, asReceived, flagsFor, written}
 use Rattle.paper.proofs.AvpLaws.{padded-least, padded-whole}
-use Rattle.paper.proofs.WrittenLaws.{headBytes, length-head}
+use Rattle.paper.proofs.WrittenLaws.{headBytes, length-head, length-as-received}
 use Rattle.avp.specs.Step.{avpAt}
 use Rattle.avp.specs.Found.{dataOf}
 use Rattle.avp.specs.declared.cursor.Avp.{Avp as Read}
 use Rattle.avp.proofs.StepLaws.{data-at}
-use Rattle.avp.specs.Written.{groupHead, received}
+use Rattle.avp.specs.declared.write.Written.the-variants.{UpTo, NoRoom}
+use Rattle.avp.specs.Written.{groupHead, received, cameTo, hasRoom, avpWritten}
 
 -- ---- headers
 
@@ -103,3 +106,30 @@ module _ (vendor code : ℕ) (d : List ℕ) (e : length d % 4 ≡ 0) {l l₁ l�
       let n : cond (eqb vendor 0) 8 12 ≡ length (groupHead vendor code (length d)) =
       sym (length-head code (flagsFor vendor true) vendor (length d) ∙ headSize-for vendor true) in
       wrote-same (group-parts vendor code d e) (wrote-under (rw n at h) (rw n at v) w)
+
+-- ---- at any place of any buffer
+
+pub size-written : (vendor code : ℕ) (mandatory : Bool) (body : List ℕ) → length (written vendor code mandatory body) ≡ padded (headSize (flagsFor vendor mandatory) + length body)
+unfolding written
+size-written vendor code mandatory body = length-as-received (record { code = code; flags = flagsFor vendor mandatory; vendor = vendor; body = body })
+
+module _ (out : List ℕ) (at vendor code : ℕ) (mandatory : Bool) (body : List ℕ) where
+  refused : hasRoom out at vendor code mandatory body ≡ false → cameTo NoRoom out ≡ avpWritten out at vendor code mandatory body
+  unfolding avpWritten
+  refused e = rw e
+
+  pub too-long : 16777199 < length body → cameTo NoRoom out ≡ avpWritten out at vendor code mandatory body
+  unfolding hasRoom
+  too-long h = refused (and-false-left (ltb (length body) 16777200) (leb (at + length (written vendor code mandatory body)) (length out)) (le-ltb (length body) 16777200 (omega arith)))
+
+  pub no-room : length out < at + padded (headSize (flagsFor vendor mandatory) + length body) → cameTo NoRoom out ≡ avpWritten out at vendor code mandatory body
+  unfolding hasRoom
+  no-room h = refused (and-false-right (ltb (length body) 16777200) (leb (at + length (written vendor code mandatory body)) (length out)) (lt-leb (at + length (written vendor code mandatory body)) (length out) (rw (size-written vendor code mandatory body) h)))
+
+  pub room : at + padded (headSize (flagsFor vendor mandatory) + length body) ≤ length out → at + length (written vendor code mandatory body) ≤ length out
+  room h = rw (size-written vendor code mandatory body) h
+
+  pub wrote-avp : {r : ℕ} {out′ : List ℕ} → length body < 16777200 → at + padded (headSize (flagsFor vendor mandatory) + length body) ≤ length out
+      → Wrote out at (written vendor code mandatory body) out′ r → cameTo (UpTo r) out′ ≡ avpWritten out at vendor code mandatory body
+  unfolding avpWritten hasRoom
+  wrote-avp h k w = rw (w .next, w .made, lt-ltb _ _ h, le-leb _ _ (room k))

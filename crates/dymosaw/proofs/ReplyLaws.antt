@@ -20,8 +20,7 @@ use Rattle.paper.specs.Layout.{recordSize, imsiSize, mostDigits, mostEntries}
 use Rattle.paper.specs.Fields.{filled}
 use Rattle.paper.specs.Profile.{userName}
 use Rattle.paper.specs.Table.{valid, recordAt, recordOf, lookup}
-use Rattle.paper.specs.Find.{originHost}
-use Rattle.paper.specs.Request.{refusal, avpsOf, valueOf, imeiDigits, isName}
+use Rattle.paper.specs.Request.{refusal, valueOf, imeiDigits, isName}
 use Rattle.paper.specs.Asked.{askedOf, imeiDigitsOf}
 use Rattle.paper.specs.Procedures.{Entry, sender, experimental, carriedOut, cancelBytes, imsiField}
 use Rattle.paper.specs.Answer.{Reply, answer}
@@ -51,13 +50,6 @@ use Rattle.table.specs.Found.{placeOf}
 use Rattle.dymosaw.specs.declared.serve.Served.the-variants.{Answered}
 use Rattle.dymosaw.specs.Serve.{cameTo, entriesIn}
 use Rattle.dymosaw.proofs.CountLaws.{entries-counted}
-
--- ---- the sender
-
--- the part of the request that holds Origin-Host is the sender's name
-pub host-sent : (m : List ℕ) → originHost m ≡ sender m
-unfolding originHost valueOf avpsOf
-host-sent m = refl
 
 -- ---- what was written is the outcome
 

@@ -3,5 +3,6 @@
 pub mod correct;
 pub mod desk;
 mod line;
+pub mod one_avp;
 pub mod read;
 pub mod serve;

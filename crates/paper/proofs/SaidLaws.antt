@@ -13,10 +13,11 @@ use Rattle.wire.specs.Number.{numAt}
 use Rattle.wire.specs.Put.{part}
 use Rattle.wire.specs.Stretch.{same}
 use Rattle.paper.specs.Reader.{whole}
+use Rattle.paper.specs.Find as Find
 use Rattle.paper.specs.Find.{member}
-use Rattle.paper.specs.Profile.{Key, commands, commandIn, commandOf, userName, originHost, visitedPlmnId, terminalInformation}
+use Rattle.paper.specs.Profile.{Key, key, commands, commandIn, commandOf, userName, originHost, visitedPlmnId, terminalInformation}
 use Rattle.paper.specs.Table.{recordOf, imsiOf, countOf, seek, lookup}
-use Rattle.paper.specs.Request.{avpsOf, find, inside, has, usedIn, requiredIn, terminal, ifUsed}
+use Rattle.paper.specs.Request.{avpsOf, valueOf, find, inside, has, usedIn, requiredIn, terminal, ifUsed}
 use Rattle.paper.specs.Procedures.{hasPlmn}
 use Rattle.paper.specs.Clerks.{isNone}
 use Rattle.paper.specs.Refusals.{requiredBy, usedBy, avpsBy, requiredSaid, usedSaid, userNameOf, originHostOf, visitedPlmnIdOf, inTerminal, someBelow, listsImsi}
@@ -126,3 +127,8 @@ pub plmn-listed : (plmn r : List ℕ) (n : ℕ) → hasPlmn plmn r n ≡ someBel
 unfolding hasPlmn someBelow
 plmn-listed plmn r zero = refl
 plmn-listed plmn r (suc n) = rw (plmn-listed plmn r n)
+
+-- "Origin-Host, once found, is handed on": the part that is handed on is the data of the first AVP (0, 264)
+pub host-handed : (m : List ℕ) → Find.originHost m ≡ valueOf (key 0 264) m
+unfolding Find.originHost valueOf avpsOf
+host-handed m = refl

@@ -14,10 +14,10 @@ use Rattle.dictionary.specs.declared.Kind.{Kind}
 use Rattle.dictionary.specs.declared.Kind.the-variants.{Four, Eight, Any, Group, Closed, Unknown}
 use Rattle.paper.specs.declared.Visit.{Visit}
 use Rattle.paper.specs.declared.Visit.the-variants.{Clean, Fault, Unsupported}
-use Rattle.paper.specs.Avp.{hasM, padded, lengthOf, framed, after, avpOf}
-use Rattle.paper.specs.Reader.{Placed, Avps, broken, more, placed, stump, Faulty, Known, end, leaf, node, View, orElse, beside, _then_, nothing, faulty, unknown, bodyAt, bare, single, sized, group, each, byKind, kindOf, seenOf, viewAvp, view, tell, told, join}
+use Rattle.paper.specs.Avp.{hasM, avpOf}
+use Rattle.paper.specs.Reader.{Placed, Faulty, Known, end, leaf, node, View, orElse, beside, _then_, nothing, faulty, unknown, bodyAt, bare, single, sized, group, each, byKind, kindOf, seenOf, viewAvp, view, tell, told, join}
 use Rattle.paper.specs.Widened.{OneAvp}
-use Rattle.paper.proofs.AvpsLaws.{avps-empty, avps-more, avps-broken, avps-one}
+use Rattle.paper.proofs.AvpsLaws.{avps-empty, avps-one}
 
 -- ---- what comes first
 

@@ -16,7 +16,15 @@ use Rattle.dymosaw.proofs.correct.dymosaw_correct as entry
 use Rattle.dymosaw.proofs.correct.dymosaw_correct.Reads as entry-reads
 use Rattle.dymosaw.proofs.read.read_message as read
 use Rattle.dymosaw.proofs.read.read_message.Reads as read-reads
-use Rattle.promises.specs.Calls.{ServeCall, RequestCall, CorrectCall, EntryCall, ReadCall}
+use Rattle.dymosaw.proofs.read.valid_table as valid-table
+use Rattle.dymosaw.proofs.read.valid_table.Reads as valid-table-reads
+use Rattle.dymosaw.proofs.read.origin_host as origin-host
+use Rattle.dymosaw.proofs.read.origin_host.Reads as origin-host-reads
+use Rattle.dymosaw.proofs.one_avp.read_avp as read-avp
+use Rattle.dymosaw.proofs.one_avp.read_avp.Reads as read-avp-reads
+use Rattle.dymosaw.proofs.one_avp.write_avp as write-avp
+use Rattle.dymosaw.proofs.one_avp.write_avp.Reads as write-avp-reads
+use Rattle.promises.specs.Calls.{ServeCall, RequestCall, CorrectCall, EntryCall, ReadCall, ValidCall, HostCall, ReadAvpCall, WriteAvpCall}
 
 -- the buffers and names of a call for a request
 abbrev given : (κs : Lfts 6) → ArgsD serve.signature κs → Lent
@@ -38,3 +46,26 @@ entry-call κs a z e learnt = record { table = now (a .0); frame = now (a .1 .0)
 
 pub read-call : (κs : Lfts 1) (a : ArgsD read.signature κs) (z : ResD read.signature κs) (e : AtExit read.ended κs) → read-reads.Learnt κs a z e → ReadCall
 read-call κs a z e learnt = record { message = now (a .0); result = z; met = learnt }
+
+pub valid-call : (κs : Lfts 1) (a : ArgsD valid-table.signature κs) (z : ResD valid-table.signature κs) (e : AtExit valid-table.ended κs) → valid-table-reads.Learnt κs a z e → ValidCall
+valid-call κs a z e learnt = record { table = now (a .0); result = z; met = learnt }
+
+pub host-call : (κs : Lfts 1) (a : ArgsD origin-host.signature κs) (z : ResD origin-host.signature κs) (e : AtExit origin-host.ended κs) → origin-host-reads.Learnt κs a z e → HostCall
+host-call κs a z e learnt = record { message = now (a .0); result = now z; met = learnt }
+
+pub read-avp-call : (κs : Lfts 1) (a : ArgsD read-avp.signature κs) (z : ResD read-avp.signature κs) (e : AtExit read-avp.ended κs) → read-avp-reads.Learnt κs a z e → ReadAvpCall
+read-avp-call κs a z e learnt = record { stretch = now (a .0); bytes = learnt .1; at = a .1 .0; result = z; met = learnt .0 }
+
+pub write-avp-call : (κs : Lfts 2) (a : ArgsD write-avp.signature κs) (z : ResD write-avp.signature κs) (e : AtExit write-avp.ended κs) → write-avp-reads.Learnt κs a z e → WriteAvpCall
+write-avp-call κs a z e learnt =
+    record {
+      out = now (a .0);
+      at = a .1 .0;
+      vendor = a .1 .1 .0;
+      code = a .1 .1 .1 .0;
+      mandatory = a .1 .1 .1 .1 .0;
+      body = now (a .1 .1 .1 .1 .1 .0);
+      result = z;
+      after = now (e .0);
+      met = learnt;
+    }

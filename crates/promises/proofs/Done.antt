@@ -1,8 +1,8 @@
 -- Promises 4, 5 and 8, of calls: by paper's theorems over `outcome` and `corrected`.
 -- Assumes nothing.
-use mathlib.Core.Path.{_≡_}
+use mathlib.Core.Path.{_≡_, refl, sym, ap, _∙_}
 use mathlib.Core.Logic.{_↔_, _≢_}
-use mathlib.Core.Bool.{true, false}
+use mathlib.Core.Bool.{Bool, true, false, cond}
 use mathlib.Core.List.{List}
 use Prim.Native.Nat.{ℕ, _≤_}
 use lib.ListN.{take}
@@ -10,13 +10,14 @@ use borrow.Author.Tests.{eq-eqb}
 use Rattle.wire.specs.Number.{numAt}
 use Rattle.wire.specs.Put.{part}
 use Rattle.paper.specs.Clerks.{recordWith, FirstThatHolds, ValueJudged, Alters}
+use Rattle.paper.specs.Find.{originHost}
 use Rattle.paper.specs.ItsRecord.{RequestRecord}
 use Rattle.paper.specs.Outcome.{Lent, Outcome}
 use Rattle.paper.specs.Procedures.{Entry, imsiField}
-use Rattle.paper.specs.Promises.{ulrBit, UpdatesOnS6a, UpdatesOnS6d, AnswersUlr, PurgesUe, Notifies}
-use Rattle.paper.specs.Read.{entriesIn}
+use Rattle.paper.specs.Promises.{sentBy, ulrBit, UpdatesOnS6a, UpdatesOnS6d, AnswersUlr, PurgesUe, Notifies}
+use Rattle.paper.specs.Read.{anMme, anSgsn, entriesIn}
 use Rattle.paper.specs.Refusals.{Said, number, result, experimental, said, refusals, First, NumberSaid}
-use Rattle.paper.specs.Table.{valid}
+use Rattle.paper.specs.Table.{nameOf, valid}
 use Rattle.paper.specs.Untouched.{OnlyItsRecord, NoRecord, NoByte}
 use Rattle.paper.proofs.CorrectionLaws.{accepted-alters}
 use Rattle.paper.proofs.CorrectionSaid.{corrected-cases, value-of-correction}
@@ -30,7 +31,8 @@ use Rattle.paper.proofs.PromiseRecord.{its-record}
 use Rattle.paper.proofs.PromiseRefusals as paper-refusals
 use Rattle.paper.proofs.PromiseUlr as paper-ulr
 use Rattle.paper.proofs.PromiseUntouched as paper-untouched
-use Rattle.promises.specs.Promises.{RequestRecordIs, UlrOnS6a, UlrOnS6d, UlrAnswered, PurPurges, NorNotifies, FirstThatApplies, NumberAsSaid, CorrectionCases, CorrectionValue, OnlyItsRecordTouched, AnswerShort, ResultTouchesNothing, ExperimentalTouchesNothing, NumberTouchesNothing, CorrectionAlters, CorrectionRecordIs}
+use Rattle.paper.proofs.SaidLaws.{host-handed}
+use Rattle.promises.specs.Promises.{after, RequestRecordIs, UlrOnS6a, UlrOnS6d, UlrAnswered, PurPurges, NorNotifies, HostStored, FirstThatApplies, NumberAsSaid, CorrectionCases, CorrectionValue, OnlyItsRecordTouched, AnswerShort, ResultTouchesNothing, ExperimentalTouchesNothing, NumberTouchesNothing, CorrectionAlters, CorrectionRecordIs}
 use Rattle.promises.proofs.CallLaws.{of-call, of-correction}
 
 -- ---- what a promise reads of a request, its table before and its outcome
@@ -76,6 +78,13 @@ pub nor-notifies : NorNotifies
 nor-notifies =
     of-call (λ l o. said o ≡ result 2001 → numAt 3 (l .request) 5 ≡ 323 → Notifies (l .request) (was l) (is l o) (list o))
     (λ l a e. paper-nor.nor-notifies l a (eq-eqb (numAt 3 (l .request) 5) 323 e))
+
+pub host-stored : HostStored
+host-stored c h s u e = go (ulrBit 1 (c .lent .request)) refl ∙ sym (h .met ∙ ap originHost e ∙ host-handed (c .lent .request))
+  where
+    go : (b : Bool) → ulrBit 1 (c .lent .request) ≡ b → nameOf (cond b anMme anSgsn) (after c) ≡ sentBy (c .lent .request)
+    go true o = ulr-on-s6a c s u o .name-stored
+    go false o = ulr-on-s6d c s u o .name-stored
 
 -- ---- 5. Refusals
 

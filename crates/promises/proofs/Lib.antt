@@ -4,4 +4,5 @@ pub mod Done
 pub mod Newer
 pub mod Once
 pub mod ReadBack
+pub mod Rewritten
 pub mod Runs

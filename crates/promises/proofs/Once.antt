@@ -20,7 +20,7 @@ use Rattle.paper.specs.Attach.{attachRequest, tableAfter, attachAnswer, attachC
 use Rattle.paper.specs.Correction.{Corrected, corrected}
 use Rattle.paper.specs.Newer as Newer
 use Rattle.paper.specs.Newer.{Accepting, Accepted}
-use Rattle.paper.specs.Outcome.{Lent, Outcome, outcome}
+use Rattle.paper.specs.Outcome.{Outcome, outcome}
 use Rattle.paper.specs.Read.{codesIn}
 use Rattle.paper.specs.ReadBack.{codesTold}
 use Rattle.paper.specs.Refusals as Refusals

@@ -10,7 +10,7 @@ use Rattle.paper.specs.Run.{Step, corrects, Came, asked, put-right, comes, left
 use Rattle.paper.specs.Table.{valid, changeOf}
 use Rattle.paper.proofs.PromiseRun as paper
 use Rattle.promises.specs.Calls.{Call, Correction}
-use Rattle.promises.specs.Promises.{Calls, end, request, correction, stepOf, stepsOf, leftBy, AsRun, RunsAsSaid, RunValid, NotBothAccepted, SameAsSeen}
+use Rattle.promises.specs.Promises.{Calls, end, request, correction, stepOf, stepsOf, leftBy, AsRun, RunsAsSaid, RunValid, RunStaysValid, NotBothAccepted, SameAsSeen}
 
 -- ---- the calls are a run
 
@@ -58,6 +58,9 @@ runs-as-said t u cs = as-run cs
 
 pub run-valid : RunValid
 run-valid t u cs e = subst (λ (x : List ℕ). valid x ≡ true) (sym (as-run cs .table)) (paper.run-valid t (stepsOf cs) e)
+
+pub run-stays-valid : RunStaysValid
+run-stays-valid t u p q cs e f v = q .met ∙ ap valid f ∙ run-valid t u cs (sym (ap valid e) ∙ sym (p .met) ∙ v)
 
 -- ---- clerks, with other calls in between
 

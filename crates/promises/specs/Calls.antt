@@ -1,11 +1,19 @@
 -- Calls of the public functions that met their contracts: what each was given, what it answered, what it left. `met` is word for word the function's
 -- `ensures` (proofs/Contracts.antt shows that). Assumes nothing.
 use mathlib.Core.Path.{_≡_}
+use mathlib.Core.Bool.{Bool}
 use mathlib.Core.List.{List}
 use Prim.Native.Nat.{ℕ, _/_, _%_, _^_}
 use Rattle.wire.specs.Number.{Bytes}
 use Rattle.paper.specs.Correction.{Corrected, corrected}
+use Rattle.paper.specs.Find.{originHost}
 use Rattle.paper.specs.Outcome.{Lent, Outcome, outcome}
+use Rattle.paper.specs.Table.{valid}
+use Rattle.avp.specs.declared.cursor.Step.{Step}
+use Rattle.avp.specs.declared.write.Written.{Written}
+use Rattle.avp.specs.Step.{stepAt}
+use Rattle.avp.specs.Written as Written
+use Rattle.avp.specs.Written.{avpWritten}
 use Rattle.reader.specs.declared.message.Message.{Message}
 use Rattle.reader.specs.Message.{messageOf}
 use Rattle.correction.specs.declared.judge.Answer.{Answer}
@@ -53,13 +61,45 @@ pub record EntryCall : Type 0 where
   pub after : List ℕ
   pub met : Entry.cameTo result after ≡ corrected table frame
 
--- ---- the calls that read
+-- ---- the calls on bytes alone
 
 -- `read_message`
 pub record ReadCall : Type 0 where
   pub message : List ℕ
   pub result : Message
   pub met : result ≡ messageOf message
+
+-- `valid_table`
+pub record ValidCall : Type 0 where
+  pub table : List ℕ
+  pub result : Bool
+  pub met : result ≡ valid table
+
+-- `origin_host`: `result` has the bytes of the part that it returned
+pub record HostCall : Type 0 where
+  pub message : List ℕ
+  pub result : List ℕ
+  pub met : result ≡ originHost message
+
+-- `read_avp`: what stands at a place of a stretch
+pub record ReadAvpCall : Type 0 where
+  pub stretch : List ℕ
+  pub bytes : Bytes stretch
+  pub at : ℕ
+  pub result : Step
+  pub met : result ≡ stepAt stretch at
+
+-- `write_avp`: an AVP by its key, M and data, at a place of a buffer
+pub record WriteAvpCall : Type 0 where
+  pub out : List ℕ
+  pub at : ℕ
+  pub vendor : ℕ
+  pub code : ℕ
+  pub mandatory : Bool
+  pub body : List ℕ
+  pub result : Written
+  pub after : List ℕ
+  pub met : Written.cameTo result after ≡ avpWritten out at vendor code mandatory body
 
 -- ---- what the promises speak of
 

@@ -1,3 +1,4 @@
 pub mod Calls
 pub mod Promises
+pub mod Rewritten
 pub mod Width

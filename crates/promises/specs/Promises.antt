@@ -6,7 +6,7 @@ use mathlib.Core.Bool.{true, false, cond}
 use mathlib.Core.Option.{none, some}
 use mathlib.Core.List.{List, [], _∷_, _++_}
 use Prim.Native.Nat.{ℕ, _+_, _-_, _/_, _%_, _^_, _≤_, _<_}
-use lib.ListN.{take, drop, getD, replicate}
+use lib.ListN.{length, take, drop, getD, replicate}
 use Rattle.wire.specs.Number.{numAt}
 use Rattle.wire.specs.Put.{part}
 use Rattle.dictionary.specs.declared.Kind.the-variants.{Unknown}
@@ -21,19 +21,23 @@ use Rattle.paper.specs.Layout.{messageHeader}
 use Rattle.paper.specs.Newer.{WidenedRequest, asking, Accepting, unsupportedOutcome, withAvps, Fits, strippedRequest}
 use Rattle.paper.specs.Procedures.{Entry, imsiField}
 use Rattle.paper.specs.Promises.{ulrBit, UpdatesOnS6a, UpdatesOnS6d, AnswersUlr, PurgesUe, Notifies}
-use Rattle.paper.specs.Read.{entriesIn, codesIn}
+use Rattle.paper.specs.Read.{anMme, anSgsn, entriesIn, codesIn}
 use Rattle.paper.specs.ReadBack.{is3xxx, ReadBack}
 use Rattle.paper.specs.Refusals as Refusals
 use Rattle.paper.specs.Refusals.{Said, number, result, said, refusals, First, NumberSaid}
 use Rattle.paper.specs.Request.{viewOf}
 use Rattle.paper.specs.Run as Run
 use Rattle.paper.specs.Run.{Step, asks, corrects, Came, asked, put-right, acceptedIn}
-use Rattle.paper.specs.Table.{valid, lookup}
+use Rattle.paper.specs.Table.{nameOf, valid, lookup}
 use Rattle.paper.specs.Untouched.{OnlyItsRecord, NoRecord, NoByte}
 use Rattle.paper.specs.Widened.{OneAvp, Inserted, Clear}
+use Rattle.avp.specs.declared.cursor.Avp.{Avp as AvpRead}
+use Rattle.avp.specs.declared.cursor.Step.the-variants.{Item}
+use Rattle.avp.specs.declared.write.Written.the-variants.{UpTo}
 use Rattle.dymosaw.specs.declared.serve.Served.the-variants.{Answered}
 use Rattle.dymosaw.specs.Serve.{saidBy}
-use Rattle.promises.specs.Calls.{ServeCall, RequestCall, CorrectCall, EntryCall, ReadCall, Call, Correction, SeenByC, SameServed, SameRequested, SameCorrected, SameEntered}
+use Rattle.promises.specs.Calls.{ServeCall, RequestCall, CorrectCall, EntryCall, ReadCall, ValidCall, HostCall, ReadAvpCall, WriteAvpCall, Call, Correction, SeenByC, SameServed, SameRequested, SameCorrected, SameEntered}
+use Rattle.promises.specs.Rewritten.{Again, Keeps, Rewritten, SameAvps}
 use Rattle.promises.specs.Width.{Changes, Short}
 
 -- ---- 1 to 3. A newer node
@@ -116,6 +120,11 @@ PurPurges = (c : Call) → Success c → numAt 3 (c .lent .request) 5 ≡ 321 �
 abbrev pub NorNotifies : Type 0
 NorNotifies = (c : Call) → Success c → numAt 3 (c .lent .request) 5 ≡ 323 → Notifies (c .lent .request) (before c) (after c) (entries c)
 
+-- "the name becomes Origin-Host", of a call `h` of `origin_host` on the request: on S6a the MME's name, on S6d the SGSN's
+abbrev pub HostStored : Type 0
+HostStored =
+    (c : Call) (h : HostCall) → Success c → numAt 3 (c .lent .request) 5 ≡ 316 → h .message ≡ c .lent .request → nameOf (cond (ulrBit 1 (c .lent .request)) anMme anSgsn) (after c) ≡ h .result
+
 -- ---- 5. Refusals, each in its stated case only
 
 abbrev pub FirstThatApplies : Type 0
@@ -166,6 +175,10 @@ RunsAsSaid = (t u : List ℕ) (cs : Calls t u) → AsRun cs
 abbrev pub RunValid : Type 0
 RunValid = (t u : List ℕ) → Calls t u → valid t ≡ true → valid u ≡ true
 
+-- and so `valid_table` says, asked before the run and after it
+abbrev pub RunStaysValid : Type 0
+RunStaysValid = (t u : List ℕ) (p q : ValidCall) → Calls t u → p .table ≡ t → q .table ≡ u → p .result ≡ true → q .result ≡ true
+
 -- how many corrections of the record with this IMSI were accepted in the run
 abbrev pub acceptedFor : List ℕ → {t u : List ℕ} → Calls t u → ℕ
 acceptedFor imsi {t} cs = acceptedIn imsi t (stepsOf cs)
@@ -204,6 +217,22 @@ pub record Visited (c : Call) (r : ReadCall) : Type 0 where
 
 abbrev pub AnswersVisited : Type 0
 AnswersVisited = (c : Call) (r : ReadCall) → c .left .number ≡ 0 → r .message ≡ answerOf c → Visited c r
+
+-- ---- AVPs read and written again
+
+-- Demand 2: an AVP that was read and is written again reads as the same AVP. `q` reads where `w` wrote what `r` read.
+abbrev pub AvpAgain : Type 0
+AvpAgain =
+    (r q : ReadAvpCall) (w : WriteAvpCall) (a : AvpRead) (next to : ℕ) → Again r a next w to → q .stretch ≡ w .after → q .at ≡ w .at
+    → (b : AvpRead) × (q .result ≡ Item b (record { at = to })) × Keeps (r .stretch) a (q .stretch) b
+
+-- "AVPs read and written again read as the same AVPs": all those of a stretch `s`, written from the start of a buffer
+abbrev pub AvpsAgain : Type 0
+AvpsAgain = (s out after : List ℕ) (n : ℕ) → Rewritten s n after 0 0 out → SameAvps s (take n after)
+
+-- and an AVP is written wherever there is room for it, whatever its header and padding take
+abbrev pub RoomEnough : Type 0
+RoomEnough = (w : WriteAvpCall) → length (w .body) < 16777200 → w .at + (12 + length (w .body) + 3) ≤ length (w .out) → (to : ℕ) × (w .result ≡ UpTo to)
 
 -- ---- 8. Nothing else is touched
 

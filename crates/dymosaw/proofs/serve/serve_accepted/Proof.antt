@@ -7,8 +7,9 @@ use Rattle.paper.specs.Outcome.{Lent}
 use Rattle.dymosaw.specs.Serve.{lent}
 use Rattle.paper.specs.Procedures.{imsiField, sender}
 use Rattle.paper.specs.Table.{lookup}
+use Rattle.paper.proofs.SaidLaws.{host-handed}
 use Rattle.table.specs.Found.{placeOf}
-use Rattle.dymosaw.proofs.ReplyLaws.{host-sent, few-digits, imsi-stored, imsi-long, ask-experimental, unknown-outcome, found-held, found-outcome}
+use Rattle.dymosaw.proofs.ReplyLaws.{few-digits, imsi-stored, imsi-long, ask-experimental, unknown-outcome, found-held, found-outcome}
 use borrow.Author.Needs.{needs}
 use Rattle.dymosaw.proofs.serve.serve_accepted.Statement.{statement}
 use Rattle.dymosaw.proofs.serve.serve_accepted.Tie as tie
@@ -27,7 +28,7 @@ bytes-in-requires c κs = c .before .accept .ensures .user .inside
 
 -- the sender's name, as the part of the request that was found
 sent : (c : tie.After-origin-host) → c .origin-host .result .now ≡ sender (c .before .before .before .before .before .before .before .before .before .args .request .now)
-sent c = c .origin-host .ensures ∙ host-sent _
+sent c = c .origin-host .ensures ∙ host-handed _
 
 imsi-field-requires : tie.Need-imsi-field-requires
 imsi-field-requires c κs = few-digits _ (c .bytes-in .ensures ∙ c .before .before .accept .ensures .user .same) (c .before .before .before .before .before .before .before .before .before .before .pre .0 .fine)
