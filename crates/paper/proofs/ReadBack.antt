@@ -6,7 +6,7 @@ use mathlib.Core.Option.{Option, none, some}
 use mathlib.Core.List.{List, [], _∷_}
 use Prim.Native.Nat.{ℕ, _≤_}
 use native.Mathlib.Omega.{arith}
-use lib.ListN.{length}
+use lib.ListN.{length, drop}
 use borrow.Author.Tests.{ne-eqb}
 use Rattle.wire.specs.Number.{Bytes}
 use Rattle.dictionary.specs.Rows.{kindOf}
@@ -15,7 +15,7 @@ use Rattle.paper.specs.Avp.{Writable}
 use Rattle.paper.specs.Reader.{Faulty, mostGroups, view, told}
 use Rattle.paper.specs.Layout.{mostEntries}
 use Rattle.paper.specs.Table.{recordOf}
-use Rattle.paper.specs.Request.{Refusal, avpsOf, viewOf, refusal}
+use Rattle.paper.specs.Request.{Refusal, avpsOf, viewOf, find, refusal}
 use Rattle.paper.specs.Procedures.{Entry, Done, sender, carriedOut}
 use Rattle.paper.specs.Answer.{Reply, replyAvps}
 use Rattle.paper.specs.Passed.{Passed}
@@ -23,8 +23,11 @@ use Rattle.paper.specs.Outcome.{Lent, Outcome, silent, answered, refusal
 use Rattle.paper.specs.Read.{before, answerOf, entriesIn, listedBy}
 use Rattle.paper.specs.Refusals.{Said, result, experimental, saidBy, said, isAnswered}
 use Rattle.paper.specs.Promises.{Accepted}
-use Rattle.paper.specs.ReadBack.{Held, ReadAs, isFaulty, unechoed, failedBy, holds, HeaderRead, ListRead, ReadBack, AnswersReadBack}
+use Rattle.paper.specs.Profile.{key}
+use Rattle.paper.specs.Firsts.{IsFirst, Keyed, topOf}
+use Rattle.paper.specs.ReadBack.{Held, ReadAs, isFaulty, unechoed, failedBy, heldLaid, holds, HeaderRead, ListRead, ReadBack, AnswersReadBack}
 use Rattle.paper.proofs.OptionLaws.{Holds}
+use Rattle.paper.proofs.FirstLaws.{avps-lie, placeOf, first-keyed}
 use Rattle.paper.proofs.EntryLaws.{EachOf, Listable}
 use Rattle.paper.proofs.ListedLaws.{Numbered, carried-numbered}
 use Rattle.paper.proofs.ProcedureLaws.{carried-each, carried-few}
@@ -37,7 +40,7 @@ use Rattle.paper.proofs.PromiseTests.{refusal-otherwise}
 use Rattle.paper.proofs.PromiseNumbers.{number-said}
 use Rattle.paper.proofs.PromiseEntries.{Readable, entries-back, list-read}
 use Rattle.paper.proofs.PromiseSuccess.{Success, success, inside, before-is}
-use Rattle.paper.proofs.ReadBackAvps.{seen, Reads, read-held}
+use Rattle.paper.proofs.ReadBackAvps.{seen, held-laid, Reads, read-held}
 use Rattle.paper.proofs.ReadBackHeader.{toldBy, header-read, answer-is, behind-is, answer-avps, answer-short}
 use Rattle.paper.proofs.ReadBackPlaces.{failed-read, failed-writable}
 use Rattle.paper.proofs.ReadBackRefusals.{no-fault, refusal-told}
@@ -89,6 +92,13 @@ module _ (l : Lent) (t : List ℕ) (es : List Entry) (y : Reply) (k : Answers l 
   held : ReadAs (avpsOf (answerOf l)) its-held
   held = rw (answer-avps l t es y (k .comes) (k .passed)) (its-reading .these)
 
+  laid : drop 20 (answerOf l) ≡ heldLaid its-held
+  laid = behind-is l t es y (k .comes) (k .passed) ∙ sym (its-bytes .bytes) ∙ sym (held-laid mostGroups its-held (its-bytes .sound))
+
+  found : (vendor code : ℕ) → IsFirst placeOf (Keyed (topOf (l .request)) vendor code) (find (key vendor code) (avpsOf (l .request)))
+  unfolding avpsOf
+  found vendor code = first-keyed vendor code 20 _ (topOf (l .request)) (avps-lie 20 (drop 20 (l .request)))
+
   its-header : HeaderRead (l .request) (answerOf l) (toldBy (y .verdict))
   its-header =
       let n = length-answer (l .request) (l .host) (l .realm) y (k .passed .least) in
@@ -119,6 +129,8 @@ module _ (l : Lent) (t : List ℕ) (es : List Entry) (y : Reply) (k : Answers l 
         header = rw its-said its-header;
         no-fault = visited;
         holding = rw its-said held;
+        bytes = rw its-said laid;
+        first-found = found;
         failed = rw its-said (failed-read (l .request) (k .passed .least) b s (rw (k .promised .failed) at (k .promised .there)));
         size = its-size;
         codes = rw its-said (codes-read (l .request) (l .host) (l .realm) (before l) (answerOf l) s (subst (λ (s : Said). proper s ≡ true) its-said (told-proper l)) held);

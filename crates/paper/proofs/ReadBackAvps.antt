@@ -4,7 +4,7 @@ use mathlib.Core.Path.{_≡_, refl, sym, ap, _∙_}
 use mathlib.Core.Logic.{_≢_}
 use mathlib.Core.Bool.{true}
 use mathlib.Core.List.{List, [], _++_, append-assoc, append-nil}
-use Prim.Native.Nat.{ℕ, _+_, _-_, _^_, _≤_, _<_}
+use Prim.Native.Nat.{ℕ, _+_, _-_, _%_, _^_, _≤_, _<_}
 use native.Mathlib.Omega.{arith}
 use lib.ListN.{length, length-append}
 use Rattle.dictionary.specs.declared.Kind.{Kind}
@@ -12,11 +12,11 @@ use Rattle.dictionary.specs.declared.Kind.the-variants.{Group, Unknown}
 use Rattle.dictionary.specs.Kinds.{sizeRight}
 use Rattle.dictionary.specs.Rows.{kindOf}
 use Rattle.paper.specs.declared.Visit.the-variants.{Clean}
-use Rattle.paper.specs.Avp.{Avp, Writable, headSize, flagsFor, asReceived}
+use Rattle.paper.specs.Avp.{Avp, Writable, headSize, padded, flagsFor, vendorField, asReceived, written}
 use Rattle.paper.specs.Reader.{Placed, Avps, whole, more, avps, bodyAt, each, viewAvp, view, told, join}
 use Rattle.paper.specs.Profile.{Key}
 use Rattle.paper.specs.Answer.{item}
-use Rattle.paper.specs.ReadBack.{Held, no-more, plain, showing, grouped, octet, ofKey, ReadAs, ends, reads, shows, enters, _and-then_}
+use Rattle.paper.specs.ReadBack.{Held, no-more, plain, showing, grouped, octet, ofKey, avpLaid, heldLaid, ReadAs, ends, reads, shows, enters, _and-then_}
 use Rattle.paper.proofs.AvpLaws.{padded-least}
 use Rattle.paper.proofs.AvpsLaws.{avps-empty, avps-one}
 use Rattle.paper.proofs.ViewLaws.{told-empty, told-then, told-group, told-sized, view-known, view-group-below}
@@ -72,6 +72,28 @@ sound-then left no-more g s t = t
 sound-then left (plain k x h) g s t = (s .0, sound-then left h g (s .1) t)
 sound-then left (showing k a h) g s t = (s .0, (s .1 .0, sound-then left h g (s .1 .1) t))
 sound-then left (grouped k inner h) g s t = (s .0, (s .1 .0, (s .1 .1 .0, sound-then left h g (s .1 .1 .1) t)))
+
+-- ---- their bytes, laid out by numbers
+
+padding-is : (n : ℕ) → padded n - n ≡ (4 - n % 4) % 4
+unfolding padded
+padding-is n = omega arith
+
+avp-laid : (a : Avp) → avpLaid a ≡ asReceived a
+unfolding avpLaid asReceived headSize vendorField
+avp-laid a = rw (padding-is (length (a .body)))
+
+item-laid : (k : Key) → Own k → (x : List ℕ) → avpLaid (ofKey k x) ≡ item k x
+unfolding written
+item-laid k o x = avp-laid (ofKey k x) ∙ ap (λ (f : ℕ). asReceived (record { code = k .code; flags = f; vendor = k .vendor; body = x })) (sym (o .flags))
+
+pub held-laid : (left : ℕ) (h : Held) → Sound left h → heldLaid h ≡ bytesOf h
+unfolding heldLaid bytesOf
+held-laid left no-more s = refl
+held-laid left (plain k x h) s = rw (item-laid k (s .0 .key .own) x, held-laid left h (s .1))
+held-laid left (showing k a h) s = rw (avp-laid a, item-laid k (s .0 .key .own) (asReceived a), held-laid left h (s .1 .1))
+held-laid left (grouped k inner h) s =
+    rw (held-laid (left - 1) inner (s .1 .1 .0), item-laid k (s .0 .own) (bytesOf inner), held-laid left h (s .1 .1 .1))
 
 -- ---- read
 

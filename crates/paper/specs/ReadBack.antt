@@ -3,9 +3,9 @@
 use mathlib.Core.Path.{_≡_}
 use mathlib.Core.Bool.{Bool, true, false, cond, _&&_, _||_, not}
 use mathlib.Core.Option.{Option, none, some}
-use mathlib.Core.List.{List, [], _∷_}
-use Prim.Native.Nat.{ℕ, _+_, _%_, _≤_}
-use lib.ListN.{length, take, getD, replicate}
+use mathlib.Core.List.{List, [], _∷_, _++_}
+use Prim.Native.Nat.{ℕ, _+_, _-_, _%_, _≤_}
+use lib.ListN.{length, take, drop, getD, replicate}
 use lib.Dec.{leb, eqb}
 use Rattle.wire.specs.Number.{be, numAt, Bytes}
 use Rattle.dictionary.specs.declared.Kind.{Kind}
@@ -24,7 +24,7 @@ use Rattle.paper.specs.ShownIn.{Standing}
 use Rattle.paper.specs.Outcome.{Lent, Outcome, outcome}
 use Rattle.paper.specs.Read.{before, answerIn, codesIn, listedIn, listLaid, ofNodes}
 use Rattle.paper.specs.Refusals.{Said, number, result, experimental, said, requiredSaid, userNameOf, originHostOf, visitedPlmnIdOf, imeiSent, wrong, nameSaid, imsiSaid, imeiSaid, isNamed}
-use Rattle.paper.specs.Firsts.{IsFirst, Repeats, Faults, Mandatory}
+use Rattle.paper.specs.Firsts.{IsFirst, Keyed, topOf, Repeats, Faults, Mandatory}
 
 -- ---- what is read in a list of AVPs
 
@@ -70,6 +70,20 @@ no-more and-then g = g
 plain k x h and-then g = plain k x (h and-then g)
 showing k a h and-then g = showing k a (h and-then g)
 grouped k inner h and-then g = grouped k inner (h and-then g)
+
+-- ---- their bytes
+
+-- an AVP: code, flag octet, length, the vendor with V (bit 7), data, "padding zero" up to a multiple of four
+unfoldable pub avpLaid : Avp → List ℕ
+avpLaid a =
+    be 4 (a .code) ++ (a .flags ∷ (be 3 (cond (bit 7 (a .flags)) 12 8 + length (a .body)) ++ (cond (bit 7 (a .flags)) (be 4 (a .vendor)) [] ++ (a .body ++ replicate ((4 - length (a .body) % 4) % 4) 0))))
+
+-- AVPs one after another
+unfoldable pub heldLaid : Held → List ℕ
+heldLaid no-more = []
+heldLaid (plain k x h) = avpLaid (ofKey k x) ++ heldLaid h
+heldLaid (showing k a h) = avpLaid (ofKey k (avpLaid a)) ++ heldLaid h
+heldLaid (grouped k inner h) = avpLaid (ofKey k (heldLaid inner)) ++ heldLaid h
 
 -- ---- "AVPs in order", each part by what the request was told
 
@@ -232,6 +246,10 @@ pub record ReadBack (l : Lent) (o : Outcome) : Type 0 where
   pub header : HeaderRead (l .request) (answerIn o) (said o)
   pub no-fault : told (viewOf (answerIn o)) ≡ Clean
   pub holding : ReadAs (avpsOf (answerIn o)) (holds (l .request) (l .host) (l .realm) (before l) (said o))
+  -- byte for byte, behind the header
+  pub bytes : drop 20 (answerIn o) ≡ heldLaid (holds (l .request) (l .host) (l .realm) (before l) (said o))
+  -- what is looked for in the request is the first AVP of its key at the top level
+  pub first-found : (vendor code : ℕ) → IsFirst (λ (p : Placed). p .at) (Keyed (topOf (l .request)) vendor code) (find (key vendor code) (avpsOf (l .request)))
   pub failed : FailedRead (l .request) (said o)
   -- the size, the code and the number of entries that the outcome names are those read
   pub size : length (answerIn o) ≡ o .size
