@@ -67,4 +67,5 @@ def main():
     return 1 if wrong or not edits else 0
 
 
-sys.exit(main())
+if __name__ == "__main__":
+    sys.exit(main())
