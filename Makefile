@@ -1,5 +1,5 @@
 # The README's two commands and what stands beside them. run and test do their own set-up: tests/setup.sh.
-.PHONY: run test lib install interop bench clean FORCE
+.PHONY: run test wrong lib install interop bench clean FORCE
 SHELL := /bin/bash
 
 # The C library: where `make install` puts it (DESTDIR goes before PREFIX for packaging), and its version for pkg-config.
@@ -14,6 +14,10 @@ run:
 # The gate: every crate proved from nothing, every must-fail edit refused, every test passed.
 test:
 	@tests/gate.sh
+
+# Document 01 written wrong, sentence by sentence: each wrong definition has to be refused by the prover (tests/wrong); outside the gate.
+wrong:
+	@python3 tests/wrong.py
 
 # The C library (x86-64), its header and its pkg-config file, in build/lib; needs `rt`.
 lib: build/lib/libdymosaw.a build/lib/dymosaw.h build/lib/dymosaw.pc

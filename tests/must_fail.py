@@ -1,8 +1,8 @@
-"""must_fail.py LOG: holds the comment of every must-fail edit against the place at which `rt ci` printed that the edit is refused.
+"""must_fail.py LOG: holds the comment of every must-fail edit against the places at which the prover refuses it.
 
 Each crates/NAME/must-fail/LABEL.edit has a line `# refused at: FILE NEED`: the file, below the crate, and the declaration in it that states the
 fact which the edit breaks. `rt ci` prints `must-fail NAME/LABEL: refused, as it must be (first at FILE:LINE:COLUMN; .. s)`, and leaves the edited
-crate and the prover's log below target/must-fail/NAME/LABEL.
+crate and the prover's log below target/must-fail/NAME/LABEL. The place has to be one that the prover refuses by itself, and not behind another.
 """
 import glob
 import os
@@ -35,6 +35,20 @@ def enclosing(path, number):
     return names
 
 
+# An error that only says that it stands behind another.
+BEHIND = "was not admitted"
+
+
+def roots(log):
+    """The errors of a log that stand behind no other: the file below the crate, its line, and the declaration that the error names."""
+    found = []
+    for path, number, text in re.findall(r"^(\S+?):(\d+):\d+: error: (.*)$", log, re.M):
+        if BEHIND not in text:
+            name = re.match(r"`([^`]+)`: ", text)
+            found.append((re.sub(r"^.*/(?=(proofs|specs|src)/)", "", path), int(number), name.group(1) if name else "?"))
+    return found
+
+
 def complaint(edit, places):
     """What is wrong with an edit, or None."""
     crate, label = edit.split("/")[1], os.path.basename(edit)[: -len(".edit")]
@@ -44,17 +58,17 @@ def complaint(edit, places):
         return f"{name}: no comment '# refused at: FILE NEED'"
     if name not in places:
         return f"{name}: rt ci printed no place for it"
-    file, number = places[name]
-    if file != promise[0]:
-        return f"{name}: refused at {file}:{number}, its comment says {promise[0]}"
     folder = f"target/must-fail/{name}"
-    if promise[1] not in enclosing(f"{folder}/{file}", number):
-        return f"{name}: refused at {file}:{number} in {enclosing(f'{folder}/{file}', number)}, its comment says {promise[1]}"
     with open(f"{folder}/.log", encoding="utf-8") as log:
-        first = next((line for line in log if ": error" in line), "")
+        text = log.read()
+    first = next((line for line in text.split("\n") if ": error" in line), "")
     if "has no `Need-" in first or "expected type `tie.Need-" in first:
         return f"{name}: the edit only made the proof file unfit: {first.strip()[:200]}"
-    return None
+    refusals = roots(text) or [(*places[name], "?")]
+    if any(file == promise[0] and promise[1] in enclosing(f"{folder}/{file}", number) for file, number, _ in refusals):
+        return None
+    told = ", ".join(f"{file}:{number} {need}" for file, number, need in refusals)
+    return f"{name}: refused at {told}; its comment says {' '.join(promise)}"
 
 
 def main():
@@ -67,4 +81,5 @@ def main():
     return 1 if wrong or not edits else 0
 
 
-sys.exit(main())
+if __name__ == "__main__":
+    sys.exit(main())
