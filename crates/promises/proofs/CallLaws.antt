@@ -1,9 +1,15 @@
--- What was shown of 01's outcome holds of every call; a call from C is such a call.
+-- What was shown of 01's outcome holds of every call; a call from C is such a call. And what closed calls need: a list is bytes by a look at each.
 -- Assumes nothing.
 use mathlib.Core.Path.{_≡_, refl, sym, ap, _∙_, subst}
-use mathlib.Core.List.{List}
-use Prim.Native.Nat.{ℕ, _+_, _*_, _/_, _%_, _^_, _≤_, _<_}
+use mathlib.Core.Bool.{true, _&&_}
+use mathlib.Core.List.{List, [], _∷_}
+use Prim.Native.Nat.{ℕ, zero, suc, _+_, _*_, _/_, _%_, _^_, _≤_, _<_}
 use native.Mathlib.Omega.{arith}
+use lib.Dec.{leb, lit<}
+use borrow.Author.Tests.{leb-true}
+use Rattle.wire.specs.Number.{Bytes}
+use Rattle.wire.specs.Stretch.{allIn}
+use Rattle.wire.proofs.ListLaws.{and-true-left, and-true-right}
 use Rattle.paper.specs.Correction.{Corrected, corrected}
 use Rattle.paper.specs.Outcome.{Lent, Outcome, outcome}
 use Rattle.paper.proofs.OutcomeLaws.{outcome-size}
@@ -15,6 +21,15 @@ of-call P p c = subst (P (c .lent)) (sym (c .met)) (p (c .lent))
 
 pub of-correction : (P : List ℕ → List ℕ → Corrected → Type 0) → ((t f : List ℕ) → P t f (corrected t f)) → (c : Correction) → P (c .table) (c .frame) (c .left)
 of-correction P p c = subst (P (c .table) (c .frame)) (sym (c .met)) (p (c .table) (c .frame))
+
+-- ---- bytes
+
+-- a list whose bytes are looked at one by one
+pub bytes-seen : (s : List ℕ) → allIn 0 255 s ≡ true → Bytes s
+unfolding allIn
+bytes-seen [] e i = lit< tt
+bytes-seen (x ∷ s) e zero = let h = leb-true x 255 (and-true-right (leb 0 x) _ (and-true-left (leb 0 x && leb x 255) _ e)) in omega arith
+bytes-seen (x ∷ s) e (suc i) = bytes-seen s (and-true-right (leb 0 x && leb x 255) _ e) i
 
 -- ---- from C
 

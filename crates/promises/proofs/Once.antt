@@ -1,18 +1,16 @@
 -- One outcome for one input, of each public call that writes; demand 3 as a caller from Rattle and one from C see it; and the promises are not empty.
 -- Assumes nothing.
 use mathlib.Core.Path.{_≡_, refl, sym, ap, _∙_, subst}
-use mathlib.Core.Bool.{true, cond, _&&_}
+use mathlib.Core.Bool.{cond}
 use mathlib.Core.Logic.{_≢_}
 use mathlib.Core.Option.{Option, none, some}
 use mathlib.Core.List.{List, [], _∷_, _++_}
-use Prim.Native.Nat.{ℕ, zero, suc, _+_, _*_, _%_, _^_}
+use Prim.Native.Nat.{ℕ, _+_, _*_, _%_, _^_}
 use native.Mathlib.Omega.{arith}
-use lib.Dec.{leb, eqb, lit<}
+use lib.Dec.{eqb}
 use lib.ListN.{take, replicate}
-use borrow.Author.Tests.{leb-true}
 use Rattle.wire.specs.Number.{Bytes}
 use Rattle.wire.specs.Stretch.{allIn}
-use Rattle.wire.proofs.ListLaws.{and-true-left, and-true-right}
 use Rattle.paper.specs.declared.Verdict.{Verdict}
 use Rattle.paper.specs.declared.Verdict.the-variants.{Base, Experimental}
 use Rattle.paper.specs.Answer as Answer
@@ -35,7 +33,7 @@ use Rattle.dymosaw.specs.declared.serve.Served.the-variants.{Refused, Answered}
 use Rattle.dymosaw.specs.Serve.{numberOf, sizeOf, saidBy, listedBy}
 use Rattle.promises.specs.Calls.{ServeCall, RequestCall, served, SameServed, SameRequested}
 use Rattle.promises.specs.Promises.{AcceptingBytes, success, experimental, ServeNewerSame, RequestNewerSame, answerOf, ServeOnce, RequestOnce, CorrectOnce, EntryOnce, AttachSucceeds}
-use Rattle.promises.proofs.CallLaws.{for-c}
+use Rattle.promises.proofs.CallLaws.{for-c, bytes-seen}
 use Rattle.promises.proofs.ReadBack.{answers-read-back}
 use Rattle.promises.proofs.Newer.{newer-same}
 
@@ -148,13 +146,6 @@ entry-once c d p q =
     record { result = ap (λ (x : Corrected). x .number) e; after = ap (λ (x : Corrected). x .table) e }
 
 -- ---- not empty
-
--- a list whose bytes are looked at one by one
-bytes-seen : (s : List ℕ) → allIn 0 255 s ≡ true → Bytes s
-unfolding allIn
-bytes-seen [] e i = lit< tt
-bytes-seen (x ∷ s) e zero = let h = leb-true x 255 (and-true-right (leb 0 x) _ (and-true-left (leb 0 x && leb x 255) _ e)) in omega arith
-bytes-seen (x ∷ s) e (suc i) = bytes-seen s (and-true-right (leb 0 x && leb x 255) _ e) i
 
 attach-bytes : Bytes attachRequest
 unfolding attachRequest allIn

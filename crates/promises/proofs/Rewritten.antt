@@ -2,20 +2,21 @@
 -- Assumes nothing.
 use mathlib.Core.Path.{_≡_, refl, sym, ap, _∙_, subst}
 use mathlib.Core.Bool.{Bool, true, false, cond, not}
-use mathlib.Core.List.{List, [], _++_}
+use mathlib.Core.List.{List, [], _∷_, _++_}
 use Prim.Native.Nat.{ℕ, _+_, _-_, _≤_, _<_}
 use native.Mathlib.Nat.{zero-add}
 use native.Mathlib.Omega.{arith}
 use lib.Dec.{ltb, eqb}
-use lib.ListN.{length, take, drop, drop-of-length-le}
+use lib.ListN.{length, take, drop, replicate, drop-of-length-le}
 use lib.Seq.{length-take-le, drop-at}
 use borrow.Author.Tests.{lt-ltb, le-leb, lt-leb, leb-true}
-use Rattle.wire.specs.Number.{Bytes}
+use Rattle.wire.specs.Number.{numAt, Bytes}
+use Rattle.wire.specs.Stretch.{allIn}
 use Rattle.wire.specs.Put.{part, put}
 use Rattle.wire.proofs.ListLaws.{and-true-right, and-true-both, part-part, part-split}
 use Rattle.wire.proofs.NumberLaws.{bytes-drop}
 use Rattle.wire.proofs.PutLaws.{length-put, part-put, part-before}
-use Rattle.paper.specs.Avp.{hasV, hasM, headSize, padded, flagsOf, lengthOf, framed, after, avpOf, asReceived, flagsFor, written, writtenAgain, Alike, alikeOf}
+use Rattle.paper.specs.Avp.{hasV, hasM, headSize, padded, flagsOf, lengthOf, vendorOf, framed, after, avpOf, vendorField, asReceived, flagsFor, written, writtenAgain, Alike, alikeOf}
 use Rattle.paper.specs.Reader.{placed, avps, unbroken, alikes}
 use Rattle.paper.specs.Widened.{OneAvp}
 use Rattle.paper.proofs.AvpLaws.{headSize-most, padded-most, one-least, head-append, framed-append, avp-append, after-at}
@@ -32,6 +33,7 @@ use Rattle.avp.proofs.WriteLaws.{size-written}
 use Rattle.promises.specs.Calls.{ReadAvpCall, WriteAvpCall}
 use Rattle.promises.specs.Promises.{AvpAgain, AvpsAgain, RoomEnough}
 use Rattle.promises.specs.Rewritten.{Again, Keeps, Rewritten, no-more, one-more}
+use Rattle.promises.proofs.CallLaws.{bytes-seen}
 
 -- ---- what a call that wrote left
 
@@ -246,3 +248,47 @@ avps-again s out last n c =
     let t = ran c in
     let z : n - 0 ≡ n = omega arith in
     record { filled = t .filled 0; filled-again = rw z at (t .filled-again 0); alike = rw z at (t .same 0 0) }
+
+-- ---- not empty
+
+-- Origin-Host mme2 with V and vendor 0, M and P
+pub received-host : List ℕ
+received-host = 0x00 ∷ 0x00 ∷ 0x01 ∷ 0x08 ∷ 0xE0 ∷ 0x00 ∷ 0x00 ∷ 0x10 ∷ 0x00 ∷ 0x00 ∷ 0x00 ∷ 0x00 ∷ 0x6D ∷ 0x6D ∷ 0x65 ∷ 0x32 ∷ []
+
+-- written again without V, vendor and P, at the start of a buffer of 16 bytes
+pub written-host : List ℕ
+written-host = 0x00 ∷ 0x00 ∷ 0x01 ∷ 0x08 ∷ 0x40 ∷ 0x00 ∷ 0x00 ∷ 0x0C ∷ 0x6D ∷ 0x6D ∷ 0x65 ∷ 0x32 ∷ 0xFF ∷ 0xFF ∷ 0xFF ∷ 0xFF ∷ []
+
+host-read : Avp
+host-read = record { at = 0; code = 264; vendor = 0; flags = 0xE0; start = 12; end = 16 }
+
+read-host : ReadAvpCall
+unfolding received-host host-read allIn stepAt avpAt framed headSize padded vendorOf numAt
+read-host =
+    record { stretch = received-host; bytes = bytes-seen received-host refl; at = 0; result = Item host-read (record { at = 16 }); met = refl }
+
+read-end : ReadAvpCall
+unfolding received-host allIn stepAt
+read-end = record { stretch = received-host; bytes = bytes-seen received-host refl; at = 16; result = End; met = refl }
+
+write-host : WriteAvpCall
+unfolding written-host avpWritten hasRoom written asReceived flagsFor headSize padded vendorField put
+write-host =
+    record {
+      out = replicate 16 255;
+      at = 0;
+      vendor = 0;
+      code = 264;
+      mandatory = true;
+      body = 0x6D ∷ 0x6D ∷ 0x65 ∷ 0x32 ∷ [];
+      result = UpTo 12;
+      after = written-host;
+      met = refl;
+    }
+
+-- there is such a run
+pub host-again : Rewritten received-host 12 written-host 0 0 (replicate 16 255)
+unfolding read-host read-end write-host host-read received-host
+host-again =
+    one-more read-host host-read 16 write-host 12 refl (record { found = refl; vendor = refl; code = refl; mandatory = refl; body = refl; wrote = refl })
+    (no-more read-end refl refl)

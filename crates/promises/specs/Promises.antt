@@ -226,7 +226,7 @@ AvpAgain =
     (r q : ReadAvpCall) (w : WriteAvpCall) (a : AvpRead) (next to : ℕ) → Again r a next w to → q .stretch ≡ w .after → q .at ≡ w .at
     → (b : AvpRead) × (q .result ≡ Item b (record { at = to })) × Keeps (r .stretch) a (q .stretch) b
 
--- "AVPs read and written again read as the same AVPs": all those of a stretch `s`, written from the start of a buffer
+-- and AVPs read and written again read as the same AVPs: all those of a stretch `s`, written from the start of a buffer
 abbrev pub AvpsAgain : Type 0
 AvpsAgain = (s out after : List ℕ) (n : ℕ) → Rewritten s n after 0 0 out → SameAvps s (take n after)
 
