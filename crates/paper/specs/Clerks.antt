@@ -57,7 +57,7 @@ noRecord test t = allBelow (λ i. not (test (8 + 256 * i))) (numAt 2 t 6)
 
 -- "Frame: whole length (2), version 1, kind, IMSI (16, as stored), change number seen (4), value."
 -- "4 table; 11 under 24 bytes or length field wrong; 12 version; 13 kind; 14 length wrong for the kind; 15 value not valid in a table;
--- 16 no such IMSI; 17 change number differs."
+-- 16 no such IMSI; 17 change number differs." 15 is tried on one right record: by `ValueJudged` every other gives the same.
 unfoldable pub cases : List Case
 cases =
     record { number = 4; holds = λ t f. not (valid t) } ∷
