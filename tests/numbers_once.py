@@ -29,6 +29,7 @@ ELSEWHERE = [
     ("crates/paper/specs/Promises.antt", None, "a promise, as above"),
     ("crates/paper/specs/Clerks.antt", {20, 256}, "a promise, as above"),
     ("crates/paper/specs/TableSaid.antt", {20, 240, 256}, "a promise, as above"),
+    ("crates/paper/specs/DeskSaid.antt", {136, 4352}, "a promise, as above"),
     ("crates/paper/specs/Read.antt", {68, 268, 297, 298}, "what a promise reads, as above"),
     ("crates/promises/specs/Promises.antt", {20, 316, 321, 323, 4292}, "a promise, as above"),
     ("crates/paper/specs/Attach.antt", None, "a closed example"),

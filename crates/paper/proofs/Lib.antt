@@ -45,6 +45,7 @@ pub mod PassesLaws
 pub mod PlaceLaws
 pub mod ProcedureLaws
 pub mod PromiseAnswer
+pub mod PromiseDesk
 pub mod PromiseEntries
 mod PromiseExamples
 pub mod PromiseFields

@@ -5,6 +5,7 @@ pub mod Avp
 pub mod Clerks
 pub mod Correction
 pub mod Desk
+pub mod DeskSaid
 pub mod Fields
 pub mod Find
 pub mod Firsts
