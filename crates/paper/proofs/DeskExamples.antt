@@ -42,24 +42,21 @@ pub desk-over : deskPrints (0 ∷ 1 ∷ 0 ∷ 1 ∷ replicate 9 1) ≡ ended
 unfolding everything
 desk-over = refl
 
--- a table with the subscriber; bytes that are no table; his attach, answered from the table that was taken, two nodes listed; the empty
--- table; and the attach again, of a user whom that table does not have
+-- an attach, before any table came; a table with the subscriber; bytes that are no table; and the attach again, answered from the table that was taken
 abbrev pub morning : List ℕ
 morning =
+    (0 ∷ 0 ∷ 0 ∷ 206 ∷ 1 ∷ 2 ∷ []) ++ (attachRequest ++ (
     (0 ∷ 0 ∷ 1 ∷ 14 ∷ 1 ∷ 1 ∷ []) ++ (tableBefore ++ (
     (0 ∷ 0 ∷ 0 ∷ 9 ∷ 1 ∷ 1 ∷ 1 ∷ 2 ∷ 3 ∷ []) ++ (
-    (0 ∷ 0 ∷ 0 ∷ 206 ∷ 1 ∷ 2 ∷ []) ++ (attachRequest ++ (
-    (0 ∷ 0 ∷ 0 ∷ 14 ∷ 1 ∷ 1 ∷ 0 ∷ 0 ∷ 0 ∷ 8 ∷ 1 ∷ 0 ∷ 0 ∷ 0 ∷ []) ++ (
-    (0 ∷ 0 ∷ 0 ∷ 206 ∷ 1 ∷ 2 ∷ []) ++ attachRequest))))))
+    (0 ∷ 0 ∷ 0 ∷ 206 ∷ 1 ∷ 2 ∷ []) ++ attachRequest)))))
 
--- 1 T 0 0 0; 2 T 4 0 0; 3 R 2001 200 2; 4 T 0 0 0; 5 R E5001 116 0
+-- 1 R E5001 116 0; 2 T 0 0 0; 3 T 4 0 0; 4 R 2001 200 2
 abbrev pub morningPrinted : List ℕ
 morningPrinted =
-    49 ∷ 32 ∷ 84 ∷ 32 ∷ 48 ∷ 32 ∷ 48 ∷ 32 ∷ 48 ∷ 10 ∷
-    50 ∷ 32 ∷ 84 ∷ 32 ∷ 52 ∷ 32 ∷ 48 ∷ 32 ∷ 48 ∷ 10 ∷
-    51 ∷ 32 ∷ 82 ∷ 32 ∷ 50 ∷ 48 ∷ 48 ∷ 49 ∷ 32 ∷ 50 ∷ 48 ∷ 48 ∷ 32 ∷ 50 ∷ 10 ∷
-    52 ∷ 32 ∷ 84 ∷ 32 ∷ 48 ∷ 32 ∷ 48 ∷ 32 ∷ 48 ∷ 10 ∷
-    53 ∷ 32 ∷ 82 ∷ 32 ∷ 69 ∷ 53 ∷ 48 ∷ 48 ∷ 49 ∷ 32 ∷ 49 ∷ 49 ∷ 54 ∷ 32 ∷ 48 ∷ 10 ∷ []
+    49 ∷ 32 ∷ 82 ∷ 32 ∷ 69 ∷ 53 ∷ 48 ∷ 48 ∷ 49 ∷ 32 ∷ 49 ∷ 49 ∷ 54 ∷ 32 ∷ 48 ∷ 10 ∷
+    50 ∷ 32 ∷ 84 ∷ 32 ∷ 48 ∷ 32 ∷ 48 ∷ 32 ∷ 48 ∷ 10 ∷
+    51 ∷ 32 ∷ 84 ∷ 32 ∷ 52 ∷ 32 ∷ 48 ∷ 32 ∷ 48 ∷ 10 ∷
+    52 ∷ 32 ∷ 82 ∷ 32 ∷ 50 ∷ 48 ∷ 48 ∷ 49 ∷ 32 ∷ 50 ∷ 48 ∷ 48 ∷ 32 ∷ 50 ∷ 10 ∷ []
 
 pub desk-morning : deskPrints morning ≡ morningPrinted
 unfolding everything tableBefore attachRequest

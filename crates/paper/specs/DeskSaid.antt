@@ -1,5 +1,5 @@
 -- Promise: what the desk does with a frame, and the bytes of its line: the last part of 01's "Worked by hand", with its numbers and bytes in their places.
--- Of Desk.antt it names two types, `Turn` and `Line`, and no definition; that `turn` and `lineBytes` are as said is `turn-said` and `line-said`.
+-- Of Desk.antt it names the type `Turn` and no definition; that `turn` and `lineBytes` are as said is `turn-said` and `line-said`.
 -- Assumes nothing.
 use mathlib.Core.Path.{_≡_}
 use mathlib.Core.Logic.{_⊎_}
