@@ -1,7 +1,7 @@
 -- The cases of the visit: of a stretch by the step at a place, of an AVP by its kind.
 -- Assumes nothing.
 use mathlib.Core.Path.{_≡_, sym, ap, ap₂, _∙_}
-use mathlib.Core.Bool.{Bool, true, false, cond, false≢true}
+use mathlib.Core.Bool.{Bool, true, cond}
 use mathlib.Core.List.{List}
 use Prim.Native.Nat.{ℕ, _+_, _-_, _≤_}
 use native.Mathlib.Nat.{add-zero}
@@ -9,12 +9,13 @@ use native.Mathlib.Omega.{arith}
 use lib.ListN.{length, drop, length-drop}
 use Rattle.dictionary.specs.declared.Kind.{Kind}
 use Rattle.dictionary.specs.declared.Kind.the-variants.{Group, Unknown}
-use Rattle.dictionary.specs.Kinds.{sizeRight, entered, known}
+use Rattle.dictionary.specs.Kinds.{sizeRight}
 use Rattle.paper.specs.declared.Visit.{Visit}
 use Rattle.paper.specs.declared.Visit.the-variants.{Clean, Fault, Unsupported}
 use Rattle.paper.specs.Avp.{hasM, flagsOf, bodyOf, avpOf}
 use Rattle.paper.specs.Reader.{Placed, Avps, placed, stump, each, view, viewAvp, bodyAt, kindOf, bare, told, join}
 use Rattle.paper.proofs.AvpLaws.{framed-at, framed-takes, length-body}
+use Rattle.paper.proofs.KindLaws.{leafKind, leaf-not-group, leaf-not-unknown}
 use Rattle.paper.proofs.ViewLaws.{join-assoc, join-clean, told-then, told-nothing, told-faulty, told-unknown, told-sized, told-group, view-unknown, view-deep, view-group-below, view-known}
 use Rattle.avp.specs.declared.cursor.Avp.{Avp}
 use Rattle.avp.specs.declared.cursor.Cursor.{Cursor}
@@ -116,10 +117,10 @@ module _ (kind : ℕ → ℕ → Kind) (left base : ℕ) (s : List ℕ) (a : Avp
       ap told (view-group-below kind allSeen left here h (sym kind-here ∙ k)) ∙ told-group _ here
       ∙ ap₂ (λ (n : ℕ) (l : List ℕ). toldOf kind (left - 1) n l) b (sym data-here)
 
-  pub avp-sized : (k : Kind) → known k ≡ true → entered k ≡ false → kind (a .vendor) (a .code) ≡ k
+  pub avp-sized : (k : Kind) → leafKind k ≡ true → kind (a .vendor) (a .code) ≡ k
       → toldAvp kind left base s (a .at) ≡ cond (sizeRight k (a .end - a .start)) Clean (Fault 5014 (base + a .at) (base + length s))
   unfolding placed avpOf
-  avp-sized k y n e =
+  avp-sized k y e =
       let q : kindOf kind allSeen (here .avp) ≡ k = sym kind-here ∙ e in
-      ap told (view-known kind allSeen left here (λ z. false≢true (sym n ∙ ap entered (sym q ∙ z))) (λ z. false≢true (sym (ap known (sym q ∙ z)) ∙ y)))
+      ap told (view-known kind allSeen left here (λ z. leaf-not-group k y (sym q ∙ z)) (λ z. leaf-not-unknown k y (sym q ∙ z)))
       ∙ told-sized _ _ here ∙ (λ i. cond (sizeRight (q i) (size-here i)) Clean (Fault 5014 (base + a .at) (end-here i)))

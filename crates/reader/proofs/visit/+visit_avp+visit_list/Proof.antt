@@ -146,24 +146,24 @@ module _ (t : ℕ) where
   visit-avp-returns-3 : visit-avp-lts.Need-returns-3 (avp-calls t) (visit-avp-at t) visit-avp.Post
   visit-avp-returns-3 c =
       let l = c .before .before in
-      sym (avp-sized _ _ _ _ _ (read-here l) Any refl refl (sym (l .lookup .ensures) ∙ c .enum-told2 .given .1))
+      sym (avp-sized _ _ _ _ _ (read-here l) Any refl (sym (l .lookup .ensures) ∙ c .enum-told2 .given .1))
 
   visit-avp-returns-4 : visit-avp-lts.Need-returns-4 (avp-calls t) (visit-avp-at t) visit-avp.Post
   visit-avp-returns-4 c =
       let l = c .before .before in
-      sym (avp-sized _ _ _ _ _ (read-here l) Closed refl refl (sym (l .lookup .ensures) ∙ c .enum-told3 .given .1))
+      sym (avp-sized _ _ _ _ _ (read-here l) Closed refl (sym (l .lookup .ensures) ∙ c .enum-told3 .given .1))
 
   visit-avp-returns-5 : visit-avp-lts.Need-returns-5 (avp-calls t) (visit-avp-at t) visit-avp.Post
   visit-avp-returns-5 c =
       let g = c .before in
       let l = g .before .before in
-      c .sized .ensures ∙ sym (avp-sized _ _ _ _ _ (read-here l) Four refl refl (sym (l .lookup .ensures) ∙ g .enum-told4 .given .1))
+      c .sized .ensures ∙ sym (avp-sized _ _ _ _ _ (read-here l) Four refl (sym (l .lookup .ensures) ∙ g .enum-told4 .given .1))
 
   visit-avp-returns-6 : visit-avp-lts.Need-returns-6 (avp-calls t) (visit-avp-at t) visit-avp.Post
   visit-avp-returns-6 c =
       let g = c .before in
       let l = g .before .before in
-      c .sized2 .ensures ∙ sym (avp-sized _ _ _ _ _ (read-here l) Eight refl refl (sym (l .lookup .ensures) ∙ g .enum-told5 .given .1))
+      c .sized2 .ensures ∙ sym (avp-sized _ _ _ _ _ (read-here l) Eight refl (sym (l .lookup .ensures) ∙ g .enum-told5 .given .1))
 
   visit-avp-returns-7 : visit-avp-lts.Need-returns-7 (avp-calls t) (visit-avp-at t) visit-avp.Post
   visit-avp-returns-7 c =
