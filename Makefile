@@ -15,7 +15,7 @@ run:
 test:
 	@tests/gate.sh
 
-# Document 01 written wrong, sentence by sentence: each wrong definition has to be refused by the prover (tests/wrong); outside the gate.
+# Sentences of document 01 written wrong: each wrong definition has to be refused by the prover (tests/wrong); outside the gate.
 wrong:
 	@python3 tests/wrong.py
 

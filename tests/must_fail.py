@@ -20,6 +20,12 @@ def promised(edit):
     return None
 
 
+def edits_proof(edit):
+    """The edit changes a proof, and not only code or definitions."""
+    with open(edit, encoding="utf-8") as text:
+        return re.search(r"^file: proofs/", text.read(), re.M)
+
+
 def enclosing(path, number):
     """The names of the declarations that hold the line: of each lesser indent the nearest signature above it, or the function's name."""
     with open(path, encoding="utf-8") as text:
@@ -35,15 +41,16 @@ def enclosing(path, number):
     return names
 
 
-# An error that only says that it stands behind another.
+# An error that only says that it stands behind another, and one that only says that the proof file no longer fits.
 BEHIND = "was not admitted"
+UNFIT = ("has no `Need-", "expected type `tie.Need-")
 
 
 def roots(log):
     """The errors of a log that stand behind no other: the file below the crate, its line, and the declaration that the error names."""
     found = []
     for path, number, text in re.findall(r"^(\S+?):(\d+):\d+: error: (.*)$", log, re.M):
-        if BEHIND not in text:
+        if not any(word in text for word in (BEHIND, *UNFIT)):
             name = re.match(r"`([^`]+)`: ", text)
             found.append((re.sub(r"^.*/(?=(proofs|specs|src)/)", "", path), int(number), name.group(1) if name else "?"))
     return found
@@ -56,15 +63,20 @@ def complaint(edit, places):
     promise = promised(edit)
     if not promise:
         return f"{name}: no comment '# refused at: FILE NEED'"
+    if edits_proof(edit):
+        return f"{name}: it edits a proof, which shows nothing"
     if name not in places:
         return f"{name}: rt ci printed no place for it"
     folder = f"target/must-fail/{name}"
     with open(f"{folder}/.log", encoding="utf-8") as log:
         text = log.read()
     first = next((line for line in text.split("\n") if ": error" in line), "")
-    if "has no `Need-" in first or "expected type `tie.Need-" in first:
+    if any(word in first for word in UNFIT):
         return f"{name}: the edit only made the proof file unfit: {first.strip()[:200]}"
-    refusals = roots(text) or [(*places[name], "?")]
+    refusals = roots(text) if first else [(*places[name], "?")]
+    own = [file for file, _, _ in refusals if first and not file.startswith("proofs/")]
+    if own:
+        return f"{name}: what it edits is itself in error: {own[0]}"
     if any(file == promise[0] and promise[1] in enclosing(f"{folder}/{file}", number) for file, number, _ in refusals):
         return None
     told = ", ".join(f"{file}:{number} {need}" for file, number, need in refusals)

@@ -1,7 +1,8 @@
 """promises.py [--self-test]: holds docs/PROMISES.md to the files that it quotes.
 
 The line before a fenced block begins with the quoted file's path in backticks; the block has to stand in that file, in whole lines, white space
-apart. In the text `CRATE/LABEL` is a must-fail edit, `test:KEY` a test of tests/gate.sh, and a name with a hyphen a theorem of the crate `promises`.
+apart. In the text `CRATE/LABEL` is a must-fail edit, `CRATE:NAME` a definition or a law, `test:KEY` a test of tests/gate.sh, and a name with a hyphen a
+theorem of the crate `promises`.
 """
 import re
 import sys
@@ -27,7 +28,7 @@ def quoted(before, block):
 
 def cited(name):
     """The name in backticks is there, or is none that this test knows."""
-    if re.fullmatch(r"test:[\w-]+|(?:paper|promises)/\w+", name):
+    if re.fullmatch(r"test:[\w-]+|[a-z_]+:[\w-]+|[a-z_]+/\w+", name):
         return there(name)
     if re.fullmatch(r"[a-z0-9]+(?:-[a-z0-9]+)+", name):
         return declared("promises", name)
@@ -49,7 +50,7 @@ def self_test(page):
     blocks = BLOCK.findall(page)
     damaged = [page.replace(block, other, 1) for _, block in blocks for other in (block[:-1] + "~", block[:-1])]
     damaged += [page.replace(blocks[-1][0], "no file:"), page.replace(blocks[-1][0], "`crates/none.antt`:")]
-    damaged += [page + f"\n`{name}`\n" for name in ("paper/no_such_edit", "promises/no_such_edit", "test:no-such-test", "no-such-theorem")]
+    damaged += [page + f"\n`{name}`\n" for name in ("paper/no_such_edit", "avp/no_such_edit", "paper:no-such-law", "test:no-such-test", "no-such-theorem")]
     passed_over = [text for text in damaged if text == page or not complaints(text)]
     print(f"{len(damaged)} damaged copies, {len(passed_over)} passed over")
     return 1 if passed_over else 0

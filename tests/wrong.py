@@ -19,8 +19,13 @@ CRATES = ["wire", "dictionary", "paper"]
 EDITS = "tests/wrong"
 SCRATCH = "build/wrong"
 
-# What the customer reads: promises, and closed examples, which compute a definition on bytes. Every other file of proofs/ is laws by the definitions' shape.
-PROMISE_FILES = re.compile(r"proofs/(Promise|ReadBack|Newer|Closed|Refusal|First|Clerks|CorrectionCases|\w*Said|\w*Examples?)\w*\.antt$")
+# What the customer reads: promises, where the literal words of one are held against the definitions, and closed examples, which compute a definition on
+# bytes. Every other file of proofs/ is laws by the definitions' shape, those of promises too.
+PROMISE_FILES = re.compile(r"proofs/(?!\w*Laws|NewerTree|NewerReads|NewerRequest|NewerUse|ReadBackFind|ReadBackPlaces)(Promise|ReadBack|Newer|Closed|Refusal|First|\w*Said|\w*Cases|\w*Examples?)\w*\.antt$"
+                           r"|proofs/SaidLaws\.antt$")
+
+# The promises' own definitions: an edit that weakens a promise shows nothing.
+PROMISES = re.compile(r"specs/(Promises|Refusals|Read|ReadBack|Newer|Run|Untouched|Clerks|Worked|Attach|Widened|ItsRecord|First\w*|\w*Said)\.antt$")
 
 
 def edits_named(labels):
@@ -65,8 +70,8 @@ def edited(edit):
     texts = {}
     for file, old, new in parts:
         path = f"crates/{crate}/{file}"
-        if not re.match(r"(specs|src)/[\w/]+\.(antt|rt)$", file or "") or not os.path.exists(path):
-            return crate, {}, f"{file} holds no definition of {crate}"
+        if not re.match(r"(specs|src)/[\w/]+\.(antt|rt)$", file or "") or PROMISES.match(file) or not os.path.exists(path):
+            return crate, {}, f"{file} holds no definition of {crate} that a promise is about"
         text = texts.get(file) or read(path)
         if not old or old == new or text.count(old) != 1:
             return crate, {}, f"a text does not stand once in {file}, or is replaced by itself: {old}"
@@ -75,11 +80,13 @@ def edited(edit):
 
 
 def read(path):
+    """A file's text."""
     with open(path, encoding="utf-8") as text:
         return text.read()
 
 
 def write(path, text):
+    """Writes a file, and the folders that it stands in."""
     os.makedirs(os.path.dirname(path), exist_ok=True)
     with open(path, "w", encoding="utf-8") as file:
         file.write(text)
@@ -133,39 +140,42 @@ def try_below(edit):
 
 
 def judged(edit, word, log):
-    """The word for an edit, the place to name, and what is wrong with its comment."""
-    if word == "NOT REFUSED":
-        return "SURVIVED", None, None
+    """What became of an edit, the words for it, and whether its comment names a place that refuses it, a promise where there is one."""
     places = [(file, need) for file, _, need in roots(log)]
+    if word == "NOT REFUSED":
+        return "survived", "SURVIVED", False
     if word != "refused" or not places:
-        return "error", None, word
-    if not all(file.startswith("proofs/") for file, _ in places):
-        return "unfit", next(place for place in places if not place[0].startswith("proofs/")), "a definition itself is in error"
+        return "error", f"error: {word}", False
+    own = [place for place in places if not place[0].startswith("proofs/")]
+    if own:
+        return "unfit", f"unfit: {' '.join(own[0])} is itself in error", False
     by_promise = [place for place in places if PROMISE_FILES.search(place[0])]
-    kind = "promise" if by_promise else "law"
-    named = promised(edit)
-    if named not in (by_promise or places):
-        return kind, (by_promise or places)[0], f"its comment says {named}"
-    return kind, named, None
+    kind, those, named = ("promise", by_promise, promised(edit)) if by_promise else ("law", places, promised(edit))
+    shown = named if named in those else those[0]
+    told = "" if named in those else f"; its comment says {' '.join(named) if named else 'nothing'}"
+    return kind, f"refused, first at {' '.join(places[0])}; {kind}: {' '.join(shown)}{told}", named in those
 
 
 def main():
+    """Tries the edits, tells of each, and ends with a summary; status 1 if one is not refused or its comment is not right."""
+    if not shutil.which("rt"):
+        print("wrong.py: the Rattle kit's `rt` is not on the path")
+        return 2
     edits = edits_named(sys.argv[1:])
     misfits = {edit: why for edit, (_, _, why) in ((edit, edited(edit)) for edit in edits) if why}
-    for edit, why in misfits.items():
-        print(f"{label_of(edit)}: error: {why}")
-    tried = [edit for edit in edits if edit not in misfits]
-    results = try_in_paper([edit for edit in tried if replacements(edit)[0] == "paper"])
-    count = {"promise": 0, "law": 0, "SURVIVED": 0, "unfit": 0, "error": len(misfits)}
-    complaints = 0
-    for edit in tried:
-        kind, place, complaint = judged(edit, *(results.get(label_of(edit)) or try_below(edit)))
-        count[kind] += 1
-        complaints += complaint is not None
-        print(f"{label_of(edit)}: {kind}{': ' + ' '.join(place) if place else ''}{' (' + complaint + ')' if complaint else ''}", flush=True)
-    refused = count["promise"] + count["law"]
-    print(f"{len(edits)} wrong definitions, {refused} refused, of them {count['promise']} at a promise or closed example, {count['SURVIVED']} survived")
-    return 1 if refused < len(edits) or complaints or not edits else 0
+    results = try_in_paper([edit for edit in edits if edit not in misfits and replacements(edit)[0] == "paper"])
+    ends, right = [], []
+    for edit in edits:
+        if edit in misfits:
+            end, words, well = "error", f"error: {misfits[edit]}", False
+        else:
+            end, words, well = judged(edit, *(results.get(label_of(edit)) or try_below(edit)))
+        ends.append(end)
+        right.append(well)
+        print(f"{label_of(edit)}: {words}", flush=True)
+    refused = ends.count("promise") + ends.count("law")
+    print(f"{len(edits)} wrong definitions, {refused} refused, of them {ends.count('promise')} at a promise or closed example, {ends.count('survived')} survived")
+    return 0 if edits and all(right) else 1
 
 
 if __name__ == "__main__":

@@ -18,7 +18,7 @@ pub fn read_avp(s: &[u8], at: usize) -> Step
     c.next(s)
 }
 
-// An AVP by its key, M and data: written, with the place behind its padding; or, where it has no room or its length more than 24 bits, nothing is written.
+// An AVP by its key, M and data: written, with the place behind its padding; or, where it has no room or more than 16,777,199 bytes of data, nothing is written.
 pub fn write_avp(
     out: &mut [u8],
     at: usize,

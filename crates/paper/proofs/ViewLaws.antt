@@ -39,12 +39,6 @@ beside-assoc end b c = refl
 beside-assoc (leaf v n x a) b c = ap (leaf v n x) (beside-assoc a b c)
 beside-assoc (node v n k a) b c = ap (node v n k) (beside-assoc a b c)
 
-pub beside-right : (a : Known) → beside a end ≡ a
-unfolding beside
-beside-right end = refl
-beside-right (leaf v n x a) = ap (leaf v n x) (beside-right a)
-beside-right (node v n k a) = ap (node v n k) (beside-right a)
-
 -- ---- what is told
 
 pub told-then : (v w : View) → told (v then w) ≡ join (told v) (told w)

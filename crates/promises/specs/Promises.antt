@@ -230,7 +230,7 @@ AvpAgain =
 abbrev pub AvpsAgain : Type 0
 AvpsAgain = (s out after : List ℕ) (n : ℕ) → Rewritten s n after 0 0 out → SameAvps s (take n after)
 
--- and an AVP is written wherever there is room for it, whatever its header and padding take
+-- and an AVP is written where there is room for the longest header, the data and the most padding
 abbrev pub RoomEnough : Type 0
 RoomEnough = (w : WriteAvpCall) → length (w .body) < 16777200 → w .at + (12 + length (w .body) + 3) ≤ length (w .out) → (to : ℕ) × (w .result ≡ UpTo to)
 
