@@ -49,6 +49,7 @@ pub mod PromiseDesk
 pub mod PromiseEntries
 mod PromiseExamples
 pub mod PromiseFields
+pub mod PromiseLaid
 pub mod PromiseNodes
 pub mod PromiseNor
 pub mod PromiseNumbers

@@ -165,7 +165,7 @@ module _ (l : Lent) where
 
   by-number : (n : ℕ) (o : Outcome) → Comes l o → said o ≡ number n → NoByte l o
   unfolding said saidBy silent answered refusalReply experimentalReply successReply
-  by-number n o (silence k) e = record { size = refl; table = refl; answer = refl; cancel = refl }
+  by-number n o (silence k) e = record { size = refl; listed = refl; table = refl; answer = refl; cancel = refl }
   by-number n o (refused p x r) e = let z : _≡_ {A = ℕ} 0 1 = cc in absurd (omega arith)
   by-number n o (ruled p r c) e = let z : _≡_ {A = ℕ} 0 1 = cc in absurd (omega arith)
   by-number n o (done p r i f) e = let z : _≡_ {A = ℕ} 0 1 = cc in absurd (omega arith)

@@ -15,7 +15,7 @@ use Rattle.paper.specs.Avp.{Writable}
 use Rattle.paper.specs.Reader.{Faulty, mostGroups, view, told}
 use Rattle.paper.specs.Layout.{mostEntries}
 use Rattle.paper.specs.Table.{recordOf}
-use Rattle.paper.specs.Request.{Refusal, avpsOf, viewOf, find, refusal}
+use Rattle.paper.specs.Request.{Refusal, avpsOf, viewOf, find, valueOf, numberOf, refusal}
 use Rattle.paper.specs.Procedures.{Entry, Done, sender, carriedOut}
 use Rattle.paper.specs.Answer.{Reply, replyAvps}
 use Rattle.paper.specs.Passed.{Passed}
@@ -23,9 +23,12 @@ use Rattle.paper.specs.Outcome.{Lent, Outcome, silent, answered, refusal
 use Rattle.paper.specs.Read.{before, answerOf, entriesIn, listedBy}
 use Rattle.paper.specs.Refusals.{Said, result, experimental, saidBy, said, isAnswered}
 use Rattle.paper.specs.Promises.{Accepted}
-use Rattle.paper.specs.Profile.{key}
+use Rattle.paper.specs.Profile.{Key, key}
+use Rattle.paper.specs.Find.{bodyFound}
+use Rattle.paper.specs.Reader.{Placed}
+use Rattle.wire.specs.Number.{numAt}
 use Rattle.paper.specs.Firsts.{IsFirst, Keyed, topOf}
-use Rattle.paper.specs.ReadBack.{Held, ReadAs, isFaulty, unechoed, failedBy, heldLaid, holds, HeaderRead, ListRead, ReadBack, AnswersReadBack}
+use Rattle.paper.specs.ReadBack.{dataIn, Held, ReadAs, isFaulty, unechoed, failedBy, heldLaid, holds, HeaderRead, ListRead, ReadBack, AnswersReadBack}
 use Rattle.paper.proofs.OptionLaws.{Holds}
 use Rattle.paper.proofs.FirstLaws.{avps-lie, placeOf, first-keyed}
 use Rattle.paper.proofs.EntryLaws.{EachOf, Listable}
@@ -95,6 +98,19 @@ module _ (l : Lent) (t : List ℕ) (es : List Entry) (y : Reply) (k : Answers l 
   laid : drop 20 (answerOf l) ≡ heldLaid its-held
   laid = behind-is l t es y (k .comes) (k .passed) ∙ sym (its-bytes .bytes) ∙ sym (held-laid mostGroups its-held (its-bytes .sound))
 
+  data-found : (o : Option Placed) → bodyFound o ≡ dataIn o
+  unfolding dataIn
+  data-found none = refl
+  data-found (some p) = refl
+
+  value-read : (m : List ℕ) (k : Key) → valueOf k m ≡ dataIn (find k (avpsOf m))
+  unfolding valueOf
+  value-read m k = data-found (find k (avpsOf m))
+
+  number-read : (m : List ℕ) (k : Key) → numberOf k m ≡ numAt 4 (dataIn (find k (avpsOf m))) 0
+  unfolding numberOf
+  number-read m k = ap (λ (x : List ℕ). numAt 4 x 0) (value-read m k)
+
   found : (vendor code : ℕ) → IsFirst placeOf (Keyed (topOf (l .request)) vendor code) (find (key vendor code) (avpsOf (l .request)))
   unfolding avpsOf
   found vendor code = first-keyed vendor code 20 _ (topOf (l .request)) (avps-lie 20 (drop 20 (l .request)))
@@ -131,6 +147,9 @@ module _ (l : Lent) (t : List ℕ) (es : List Entry) (y : Reply) (k : Answers l 
         holding = rw its-said held;
         bytes = rw its-said laid;
         first-found = found;
+        value-found = λ vendor code. value-read (l .request) (key vendor code);
+        number-found = λ vendor code. number-read (l .request) (key vendor code);
+        inside-found = λ p. refl;
         failed = rw its-said (failed-read (l .request) (k .passed .least) b s (rw (k .promised .failed) at (k .promised .there)));
         size = its-size;
         codes = rw its-said (codes-read (l .request) (l .host) (l .realm) (before l) (answerOf l) s (subst (λ (s : Said). proper s ≡ true) its-said (told-proper l)) held);

@@ -15,7 +15,7 @@ use Rattle.wire.proofs.NumberLaws.{numAt-lt, bytes-part}
 use Rattle.dictionary.specs.declared.Kind.{Kind}
 use Rattle.dictionary.specs.declared.Kind.the-variants.{Four, Eight, Any, Group, Closed, Unknown}
 use Rattle.dictionary.specs.Rows.{kindOf}
-use Rattle.paper.specs.Avp.{Avp, Writable, flagsOf, bareOf, flagsFor}
+use Rattle.paper.specs.Avp.{Avp, Writable, flagsOf, vendorOf, bareOf, flagsFor}
 use Rattle.paper.specs.Reader.{Placed, Avps, Faulty}
 use Rattle.paper.specs.Widened.{shownOf}
 use Rattle.paper.specs.Find.{member}
@@ -24,6 +24,7 @@ use Rattle.paper.specs.Request.{avpsOf, viewOf, find, isThere, repeated}
 use Rattle.paper.specs.Refusals.{Said, requiredBy, avpsBy, requiredSaid, userNameOf, originHostOf, visitedPlmnIdOf, imeiSent, wrong, nameSaid, imsiSaid, imeiSaid}
 use Rattle.paper.specs.Shown.{stretch}
 use Rattle.paper.specs.ShownIn.{Standing}
+use Rattle.paper.specs.Laid.{headLaid, bareLaid}
 use Rattle.paper.specs.ReadBack.{octet, ofKey, tells, headOf, emptyOf, firstLacking, firstWrong, failedBy, isShown, FailedRead}
 use Rattle.paper.proofs.AvpLaws.{headSize-most}
 use Rattle.paper.proofs.AvpsLaws.{cond-cases}
@@ -50,6 +51,10 @@ module _ (m : List ℕ) (least : 20 ≤ length m) where
       (λ f. cond-cases (Standing m) (wrong (λ x. eqb (length x) 3) (visitedPlmnIdOf m)) (λ g. subst (Standing m) (visited-plmn-id-said m) (used-standing m least visitedPlmnId))
       (λ g. cond-cases (Standing m) (wrong imeiSaid (imeiSent m)) (λ h. rw (terminal-said m) at (imei-standing m least)) (λ h. none-standing m))))
 
+  head-laid : (s : List ℕ) → bareOf s ≡ bareLaid s
+  unfolding bareOf headLaid vendorOf
+  head-laid s = refl
+
   -- a fault shows the head of what stands at its place
   fault-head : (f : Faulty) → viewOf m .fault ≡ some f → headOf (viewOf m .fault) ≡ some (bareOf (stretch m (f .shown .at) (f .shown .end)))
   unfolding headOf bareOf
@@ -65,7 +70,7 @@ module _ (m : List ℕ) (least : 20 ≤ length m) where
         second = repeated-standing m least;
         first-second = first-repeated m least b;
         wrong-value = wrong-standing;
-        fault = fault-head;
+        fault = λ f e. fault-head f e ∙ ap (λ (a : Avp). some a) (head-laid _);
         first-fault = first-fault m;
       }
 

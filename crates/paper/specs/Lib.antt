@@ -10,6 +10,7 @@ pub mod Fields
 pub mod Find
 pub mod Firsts
 pub mod ItsRecord
+pub mod Laid
 pub mod Layout
 pub mod Newer
 pub mod Outcome

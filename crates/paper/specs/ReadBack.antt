@@ -8,6 +8,7 @@ use Prim.Native.Nat.{ℕ, _+_, _-_, _%_, _≤_}
 use lib.ListN.{length, take, drop, getD, replicate}
 use lib.Dec.{leb, eqb}
 use Rattle.wire.specs.Number.{be, numAt, Bytes}
+use Rattle.wire.specs.Put.{part}
 use Rattle.dictionary.specs.declared.Kind.{Kind}
 use Rattle.dictionary.specs.declared.Kind.the-variants.{Four, Eight, Any, Group, Closed, Unknown}
 use Rattle.dictionary.specs.Rows.{kindOf}
@@ -16,7 +17,7 @@ use Rattle.paper.specs.Avp.{Avp, bit, bareOf}
 use Rattle.paper.specs.Reader.{Placed, Avps, whole, broken, more, avps, bodyAt, Faulty, orElse, told}
 use Rattle.paper.specs.Find.{hasKey}
 use Rattle.paper.specs.Profile.{Key, key}
-use Rattle.paper.specs.Request.{avpsOf, viewOf, find, isThere, valueOf, numberOf, repeated}
+use Rattle.paper.specs.Request.{avpsOf, viewOf, find, isThere, inside, valueOf, numberOf, repeated}
 use Rattle.paper.specs.Procedures.{Entry}
 use Rattle.paper.specs.Widened.{shownOf}
 use Rattle.paper.specs.Shown.{stretch}
@@ -24,7 +25,8 @@ use Rattle.paper.specs.ShownIn.{Standing}
 use Rattle.paper.specs.Outcome.{Lent, Outcome, outcome}
 use Rattle.paper.specs.Read.{before, answerIn, codesIn, listedIn, listLaid, ofNodes}
 use Rattle.paper.specs.Refusals.{Said, number, result, experimental, said, requiredSaid, userNameOf, originHostOf, visitedPlmnIdOf, imeiSent, wrong, nameSaid, imsiSaid, imeiSaid, isNamed}
-use Rattle.paper.specs.Firsts.{IsFirst, Keyed, topOf, Repeats, Faults, Mandatory}
+use Rattle.paper.specs.Laid.{bareLaid}
+use Rattle.paper.specs.Firsts.{IsFirst, Keyed, topOf, insideOf, Repeats, Faults, Mandatory}
 
 -- ---- what is read in a list of AVPs
 
@@ -216,6 +218,11 @@ abbrev pub isShown : Option Avp → Bool
 isShown none = false
 isShown (some a) = true
 
+-- the data of what was found
+unfoldable pub dataIn : Option Placed → List ℕ
+dataIn none = []
+dataIn (some p) = p .avp .body
+
 -- Failed-AVP stands in the answer for its five Result-Codes and no other;
 -- what it shows of the request `m` is read off the request's own bytes, from its place to the end of what encloses it;
 -- and it is the first unknown AVP with M, the first second, the first fault: by `Firsts.antt`, which knows nothing of how they are looked for
@@ -226,7 +233,7 @@ pub record FailedRead (m : List ℕ) (s : Said) : Type 0 where
   pub second : Standing m (repeated m)
   pub first-second : IsFirst (λ (p : Placed). p .at) (Repeats m) (repeated m)
   pub wrong-value : Standing m (firstWrong m)
-  pub fault : (f : Faulty) → viewOf m .fault ≡ some f → headOf (viewOf m .fault) ≡ some (bareOf (stretch m (f .shown .at) (f .shown .end)))
+  pub fault : (f : Faulty) → viewOf m .fault ≡ some f → headOf (viewOf m .fault) ≡ some (bareLaid (part (f .shown .at) (f .shown .end - f .shown .at) m))
   pub first-fault : IsFirst (λ (f : Faulty). f .shown .at) (λ f. Faults m (f .code) (f .shown .at) (f .shown .end)) (viewOf m .fault)
 
 -- Result-Code and Experimental-Result-Code, 0 for the one that is not told
@@ -250,6 +257,10 @@ pub record ReadBack (l : Lent) (o : Outcome) : Type 0 where
   pub bytes : drop 20 (answerIn o) ≡ heldLaid (holds (l .request) (l .host) (l .realm) (before l) (said o))
   -- what is looked for in the request is the first AVP of its key at the top level
   pub first-found : (vendor code : ℕ) → IsFirst (λ (p : Placed). p .at) (Keyed (topOf (l .request)) vendor code) (find (key vendor code) (avpsOf (l .request)))
+  -- its data, and that as a number of four bytes, 0 where there is none
+  pub value-found : (vendor code : ℕ) → valueOf (key vendor code) (l .request) ≡ dataIn (find (key vendor code) (avpsOf (l .request)))
+  pub number-found : (vendor code : ℕ) → numberOf (key vendor code) (l .request) ≡ numAt 4 (dataIn (find (key vendor code) (avpsOf (l .request)))) 0
+  pub inside-found : (p : Placed) → inside (some p) ≡ insideOf p
   pub failed : FailedRead (l .request) (said o)
   -- the size, the code and the number of entries that the outcome names are those read
   pub size : length (answerIn o) ≡ o .size

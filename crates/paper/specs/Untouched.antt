@@ -38,6 +38,7 @@ pub record NoRecord (l : Lent) (o : Outcome) : Type 0 where
 -- "the answer length is 0 and all buffers stay as they came"
 pub record NoByte (l : Lent) (o : Outcome) : Type 0 where
   pub size : o .size ≡ 0
+  pub listed : o .listed ≡ 0
   pub table : o .table ≡ l .table
   pub answer : o .answer ≡ l .answer
   pub cancel : o .cancel ≡ l .cancel
