@@ -20,7 +20,7 @@ EDITS = "tests/wrong"
 SCRATCH = "build/wrong"
 
 # What the customer reads: promises, and closed examples, which compute a definition on bytes. Every other file of proofs/ is laws by the definitions' shape.
-PROMISE_FILES = re.compile(r"proofs/(Promise|ReadBack|Newer|Closed|Refusal|First|Clerks|\w*Said|\w*Cases|\w*Examples?)\w*\.antt$")
+PROMISE_FILES = re.compile(r"proofs/(Promise|ReadBack|Newer|Closed|Refusal(?!Sizes)|First|Clerks|\w*Said|\w*Cases|\w*Examples?)\w*\.antt$")
 
 # The promises' own definitions: an edit that weakens a promise shows nothing.
 PROMISES = re.compile(r"specs/(Promises|Refusals|Read|ReadBack|Newer|Run|Untouched|Clerks|Worked|Attach|Widened|ItsRecord|First\w*|\w*Said)\.antt$")
