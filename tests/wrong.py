@@ -21,11 +21,11 @@ SCRATCH = "build/wrong"
 
 # What the customer reads: promises, where the literal words of one are held against the definitions, and closed examples, which compute a definition on
 # bytes. Every other file of proofs/ is laws by the definitions' shape, those of promises too.
-PROMISE_FILES = re.compile(r"proofs/(?!\w*Laws|NewerTree|NewerReads|NewerRequest|NewerUse|ReadBackFind|ReadBackPlaces)(Promise|ReadBack|Newer|Closed|Refusal|First|\w*Said|\w*Cases|\w*Examples?)\w*\.antt$"
+PROMISE_FILES = re.compile(r"proofs/(?!\w*Laws|NewerTree|NewerReads|NewerRequest|NewerUse|ReadBackFind|ReadBackPlaces)(Promise|ReadBack|Newer|Closed|Refusal(?!Sizes)|First|\w*Said|\w*Cases|\w*Examples?)\w*\.antt$"
                            r"|proofs/SaidLaws\.antt$")
 
 # The promises' own definitions: an edit that weakens a promise shows nothing.
-PROMISES = re.compile(r"specs/(Promises|Refusals|Read|ReadBack|Newer|Run|Untouched|Clerks|Worked|Attach|Widened|ItsRecord|First\w*|\w*Said)\.antt$")
+PROMISES = re.compile(r"specs/(Promises|Refusals|Read|ReadBack|Newer|Run|Untouched|Clerks|Worked|Attach|Widened|ItsRecord|Laid|First\w*|\w*Said)\.antt$")
 
 
 def edits_named(labels):
