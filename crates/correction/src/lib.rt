@@ -1,5 +1,7 @@
 // A correction of one record: 01's section "Corrections". It is decided first, with the table only read, and written after.
 // `correct` has no `requires`: any bytes are a table that is judged, and any bytes a frame.
+#![tactic(auto)]
+
 pub mod frame;
 pub mod judge;
 pub mod store;

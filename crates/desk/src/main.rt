@@ -1,5 +1,7 @@
 // The desk program: reads frames from standard input and writes a line for each to standard output. What a frame comes to is dymosaw's `step`; here is
 // only reading, calling and writing.
+#![tactic(auto)]
+
 ghost use Rattle.std.specs.Prelude.{◌≤◌, length};
 ghost use Rattle.paper.specs.Desk.{most_frame};
 

@@ -1,5 +1,7 @@
 // The AVPs that the registry knows, and what their types mean to the reader (document 01, "The reader").
 // A lookup halves two lent arrays whose keys ascend; that they do is proved once over all rows and carried to each lookup as a `requires`.
+#![tactic(auto)]
+
 ghost use Rattle.std.specs.Prelude.{◌≡◌, ◌<◌};
 ghost use Rattle.dictionary.specs.Kinds.{kind_numbered};
 ghost use Rattle.dictionary.specs.Rows.{keys, kinds, key_of, kind_in, Lent};

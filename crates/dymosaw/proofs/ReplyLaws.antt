@@ -25,7 +25,7 @@ use Rattle.paper.specs.Outcome.{Lent, Outcome, answered, success_items, by_verdi
 use Rattle.paper.specs.Passed.{Passed}
 use Rattle.paper.proofs.TableLaws.{lookup_some}
 use Rattle.paper.proofs.StoreLaws.{inside-valid}
-use Rattle.paper.proofs.AcceptedLaws.{sender-name, imei_digits, user-few, length-imsi}
+use Rattle.paper.proofs.AcceptedLaws.{sender-name, imei_digits_lem, user-few, length-imsi}
 use Rattle.paper.proofs.ProcedureLaws.{carried_each, carried_few}
 use Rattle.paper.proofs.ListedLaws.{carried_numbered}
 use Rattle.paper.proofs.AnswerSizes as Sizes
@@ -162,4 +162,4 @@ imsi-long m e n = rw e (length-imsi m n)
 
 pub imei-told : (m : List ℕ) {x : List ℕ} {asked : Asked} → x ≡ imei_digits_of m → asked ≡ asked_of m → refusal m ≡ none → asked.has_imei ≡ true → imei_digits x ≡ true
 unfolding asked_of
-imei-told m e told n h = rw e (imei_digits m n (sym (ap (λ (a : Asked). a.has_imei) told) ∙ h))
+imei-told m e told n h = rw e (imei_digits_lem m n (sym (ap (λ (a : Asked). a.has_imei) told) ∙ h))

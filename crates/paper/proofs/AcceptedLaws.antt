@@ -104,8 +104,8 @@ module _ (m : List ℕ) (n : refusal m ≡ none) where
   accepted = record { sender-name = sender-name; imei-right = λ p e. value_right_lem imei_digits (some p) refl (ap (value_test imei_digits) (sym e) ∙ imei-passed) }
 
   -- and of its IMEI, as digits beside the request's numbers
-  pub imei_digits : is_there (imei_of m) ≡ true → imei_digits (body_found (imei_of m)) ≡ true
-  imei_digits t = value_right_lem imei_digits (imei_of m) t imei-passed
+  pub imei_digits_lem : is_there (imei_of m) ≡ true → imei_digits (body_found (imei_of m)) ≡ true
+  imei_digits_lem t = value_right_lem imei_digits (imei_of m) t imei-passed
 
   pub user-few : length (value_of user_name m) ≤ most_digits
   unfolding imsi_digits

@@ -1,5 +1,7 @@
 // Document 01 as definitions: a crate without functions. The statements stand in specs/, a file a section of the paper; their laws and the
 // promises made of them in proofs/. A reviewer reads this folder beside 01. Here are the types that they speak of, and 01's numbers for code.
+#![tactic(auto)]
+
 pub mod layout;
 pub mod profile;
 

@@ -1,4 +1,6 @@
 // What can be asked of a message, for the tests in C: the answer of the visit as one number, and Origin-Host copied out. It is no part of the product.
+#![tactic(auto)]
+
 ghost use Rattle.std.specs.Prelude.{◌≡◌};
 ghost use Rattle.paper.specs.Find.{origin_host};
 ghost use Rattle.reader.specs.Message.{message_of};

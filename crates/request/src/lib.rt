@@ -1,5 +1,7 @@
 // A request judged: from its bytes to the first refusal with an answer that applies, or to what an accepted request asks, by numbers and places.
 // Every contract cites document 01 as the crate `paper` defines it.
+#![tactic(auto)]
+
 pub mod accept;
 pub mod held;
 pub mod judge;
