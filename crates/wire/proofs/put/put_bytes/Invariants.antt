@@ -1,0 +1,13 @@
+-- `put_bytes` meets its contract. The loop's invariant: the first `j` bytes of `src` stand at `at`.
+-- Assumes nothing.
+use mathlib.Core.Path.{◌≡◌}
+use Prim.Native.Nat.{◌-◌, ◌≤◌}
+use lib.ListN.{length, take}
+use Rattle.wire.specs.Put.{put}
+use Rattle.wire.proofs.put.put_bytes.Given as goal
+
+abbrev pub invariant-loop-j : goal.invariant-loop-j
+invariant-loop-j l = (l.j ≤ length l.src) × (l.out ≡ put l.at (take l.j l.src) l.initial.out) × (length l.out ≡ length l.initial.out)
+
+abbrev pub decreases-loop-j : goal.decreases-loop-j
+decreases-loop-j l = length l.src - l.j
