@@ -8,7 +8,7 @@ ghost use Rattle.avp.specs.Step.{step_at};
 use wire::number::{get_u24, get_u32};
 
 // An AVP of a stretch: its place there, the numbers of its header, and where its data starts and ends.
-#[derive(Drop)]
+#[derive(Clone, Copy)]
 pub struct Avp {
     pub at: usize,
     pub code: u32,

@@ -41,7 +41,7 @@ const REQUEST: u8 = 2;
 const CORRECTION: u8 = 3;
 
 // Where a run stands: how many bytes of the buffer are the table, and the number of the frame that comes.
-#[derive(Drop)]
+#[derive(Clone, Copy)]
 pub struct Desk {
     pub used: usize,
     pub number: u64,

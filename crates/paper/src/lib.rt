@@ -7,7 +7,7 @@ pub mod profile;
 
 // What the message reader answers of the AVPs of a message: "first fault of the visit", "visited unknown AVP with M set; the first", or neither.
 // A place counts from the start of the message; `end` is the end of what encloses the AVP.
-#[derive(Drop)]
+#[derive(Clone, Copy)]
 pub enum Visit {
     Clean,
     Fault { code: u32, at: usize, end: usize },
@@ -15,21 +15,21 @@ pub enum Visit {
 }
 
 // "A Result-Code and an Experimental-Result-Code are separate numberings": base 5001 cannot be written where the 3GPP 5001 is meant.
-#[derive(Drop)]
+#[derive(Clone, Copy)]
 pub struct ResultCode(pub u32);
 
-#[derive(Drop)]
+#[derive(Clone, Copy)]
 pub struct ExperimentalCode(pub u32);
 
 // What an answer says: "Result-Code (success 2001) or Experimental-Result".
-#[derive(Drop)]
+#[derive(Clone, Copy)]
 pub enum Verdict {
     Base(ResultCode),
     Experimental(ExperimentalCode),
 }
 
 // The AVP that Failed-AVP shows, by its place in the request, `end` the end of what encloses it, or by its key.
-#[derive(Drop)]
+#[derive(Clone, Copy)]
 pub enum Failed {
     Nothing,
     // The AVP itself, its data as received.
@@ -59,7 +59,7 @@ pub enum Extra {
 
 // What a request asks of the procedures, as plain numbers. `flags` is the flag word of the command's own: ULR-Flags, PUR-Flags or NOR-Flags, 0 where it is
 // not there.
-#[derive(Drop)]
+#[derive(Clone, Copy)]
 pub struct Asked {
     pub command: u32,
     pub rat: u32,

@@ -11,7 +11,7 @@ use crate::nodes::{Slot, same_name};
 use paper::layout::{CANCEL_SIZE, MOST_NAME};
 
 // Whether a node is cancelled, and with which Cancellation-Type.
-#[derive(Drop)]
+#[derive(Clone, Copy)]
 pub enum Cancel {
     Not,
     With(u8),

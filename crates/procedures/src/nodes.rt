@@ -6,7 +6,7 @@ ghost use Rattle.procedures.specs.Values.{slot_of, IsNode, Held};
 
 use paper::layout::{MME_AT, SGSN_AT};
 
-#[derive(Drop)]
+#[derive(Clone, Copy)]
 pub struct Slot {
     // Its number in the list: 1 MME or 2 SGSN.
     pub number: u8,

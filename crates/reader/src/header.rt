@@ -6,7 +6,7 @@ ghost use Rattle.reader.specs.Header.{header_of};
 use paper::layout::MESSAGE_HEADER;
 use wire::number::{byte_or_zero, get_cut, get_u24, get_u32};
 
-#[derive(Drop)]
+#[derive(Clone, Copy)]
 pub struct Header {
     pub version: u8,
     pub length: u32,

@@ -11,14 +11,14 @@ use avp::find::{Found, find, first_second};
 use wire::number::get_cut;
 
 // A stretch of the message.
-#[derive(Drop)]
+#[derive(Clone, Copy)]
 pub struct Span {
     pub at: usize,
     pub end: usize,
 }
 
 // An AVP of the message: its place, the end of what encloses it, and where its data starts and ends.
-#[derive(Drop)]
+#[derive(Clone, Copy)]
 pub struct Spot {
     pub at: usize,
     pub end: usize,
@@ -26,7 +26,7 @@ pub struct Spot {
     pub to: usize,
 }
 
-#[derive(Drop)]
+#[derive(Clone, Copy)]
 pub enum Sought {
     At(Spot),
     Nothing,

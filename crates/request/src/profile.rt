@@ -38,7 +38,7 @@ pub const TERMINAL_INFORMATION: u64 = TGPP + profile::TERMINAL_INFORMATION as u6
 
 pub const IMEI: u64 = TGPP + profile::IMEI as u64;
 
-#[derive(Drop)]
+#[derive(Clone, Copy)]
 pub enum Command {
     Ulr,
     Pur,

@@ -24,7 +24,7 @@ use paper::profile::APPLICATION;
 use paper::{Failed, ResultCode, Visit};
 use reader::header::Header;
 
-#[derive(Drop)]
+#[derive(Clone, Copy)]
 pub enum Test {
     Fine,
     Fails {

@@ -10,7 +10,7 @@ ghost use Rattle.table.specs.Found.{place_of, key_num};
 use crate::record;
 use paper::layout;
 
-#[derive(Drop)]
+#[derive(Clone, Copy)]
 pub struct Key(pub u64, pub u64);
 
 #[derive(Drop)]
