@@ -1,0 +1,32 @@
+-- `avp::find::find` meets its contract. The loop's invariant: the first of the key is the first from the cursor on; the measure is what is left
+-- of the stretch. Assumes nothing.
+use mathlib.Core.Path.{sym, ap, ◌∙◌}
+use Rattle.paper.specs.Find.{first_of}
+use Rattle.avp.specs.Found.{found_at}
+use Rattle.avp.proofs.StepLaws.{item_falls}
+use Rattle.avp.proofs.FindLaws.{walk_start, found-item, find-end, find_bad, find-here, find-later}
+use Rattle.avp.proofs.find.find.Goals as goal
+
+pub loop-avp-init : goal.loop-avp-init
+loop-avp-init c = ap (first_of _ _) (walk_start _ c.new-c.ensures)
+
+pub returns-in-End : goal.returns-in-End
+returns-in-End c =
+    sym (ap (found_at _) (c.loop-avp.invariant ∙ find-end _ _ _ _ c.in-End.ensures))
+
+pub returns-in-Bad : goal.returns-in-Bad
+returns-in-Bad c =
+    sym (ap (found_at _) (c.loop-avp.invariant ∙ find_bad _ _ _ _ c.in-Bad.ensures))
+
+pub returns-then-has_key : goal.returns-then-has_key
+returns-then-has_key c =
+    let e = c.in-Item.ensures in
+    sym (ap (found_at _) (c.loop-avp.invariant ∙ find-here _ _ _ _ e (sym c.has_key.ensures ∙ c.if-has_key.true)) ∙ found-item _ _ e)
+
+pub loop-avp-smaller : goal.loop-avp-smaller
+loop-avp-smaller c =
+    item_falls _ _ c.in-Item.ensures
+
+pub loop-avp-preserved : goal.loop-avp-preserved
+loop-avp-preserved c =
+    c.loop-avp.invariant ∙ find-later _ _ _ _ c.in-Item.ensures (sym c.has_key.ensures ∙ c.if-has_key.false)

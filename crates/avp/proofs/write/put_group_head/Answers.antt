@@ -1,0 +1,13 @@
+-- `avp::write::put_group_head` meets its contract. Assumes nothing.
+use Rattle.wire.proofs.PutLaws.{wrote-same}
+use Rattle.avp.proofs.WriteLaws.{head_for}
+use Rattle.avp.proofs.write.put_group_head.Goals as goal
+
+pub put_head-requires : goal.put_head-requires
+put_head-requires c =
+    (c.requires.0, rw (head_for c.args.vendor c.args.code c.args.n c.flags_for.ensures) c.requires.1)
+
+pub returns : goal.returns
+returns c =
+    let a = c.args in
+    wrote-same (head_for a.vendor a.code a.n c.flags_for.ensures) c.put_head.ensures
