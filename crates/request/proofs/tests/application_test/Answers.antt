@@ -1,0 +1,9 @@
+-- `request::tests::application_test` meets its contract. Assumes nothing.
+use Rattle.request.proofs.TestLaws.{application-right, application-wrong}
+use Rattle.request.proofs.tests.application_test.Goals as goal
+
+pub returns-then-h-eq-APPLICATION : goal.returns-then-h-eq-APPLICATION
+returns-then-h-eq-APPLICATION c = λ m e. application-right m e c.if-h-eq-APPLICATION.true
+
+pub returns : goal.returns
+returns c = λ m e. rw c.fails_with.ensures (application-wrong m e c.if-h-eq-APPLICATION.false)
