@@ -20,7 +20,6 @@ use Rattle.paper.specs.declared.ExperimentalCode.{ExperimentalCode}
 use Rattle.paper.specs.declared.Verdict.{Verdict}
 use Rattle.paper.specs.declared.Verdict.TheVariants.{Base, Experimental}
 use Rattle.paper.specs.declared.Extra.{Extra}
-use Rattle.paper.specs.declared.Extra.TheVariants as Extra
 use Rattle.paper.proofs.AvpLaws.{padded-least}
 use Rattle.paper.proofs.AnswerParts.{item-fours, fours-add, length-number}
 use Rattle.avp.specs.Written.{group_head}

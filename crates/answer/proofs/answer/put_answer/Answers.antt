@@ -1,0 +1,36 @@
+-- `answer::answer::put_answer` meets its contract: the AVPs behind 20 bytes, then the header in front of them. Assumes nothing.
+use mathlib.Core.List.{List}
+use Prim.Native.Nat.{ℕ, ◌+◌, ◌≤◌}
+use native.Mathlib.Omega.{arith}
+use lib.ListN.{length}
+use Rattle.paper.specs.Layout.{least_request, least_answer, longest_answer}
+use Rattle.paper.specs.Answer.{Reply, reply_avps, answer}
+use Rattle.paper.specs.Shown.{reply_of}
+use Rattle.paper.proofs.AnswerParts.{length-answer}
+use Rattle.answer.proofs.AnswerLaws.{wrote-answer}
+use Rattle.answer.proofs.answer.put_answer.Goals as goal
+
+-- its AVPs leave room for the header and 60 bytes more
+room : (m host realm : List ℕ) (y : Reply) {n : ℕ} → least_request ≤ length m → least_answer ≤ n → length (answer m host realm y) ≤ longest_answer
+    → 20 + (length (reply_avps m host realm y) + 60) ≤ n
+room m host realm y h b p = let l = length-answer m host realm y h in omega arith
+
+pub put_avps-end-requires : goal.put_avps-end-requires
+put_avps-end-requires c = record { given = c.requires.given; room = room _ _ _ _ c.requires.given.least c.requires.buffer c.requires.short }
+
+pub reply_flags-requires : goal.reply_flags-requires
+reply_flags-requires c = c.requires.given.least
+
+pub put_header-requires : goal.put_header-requires
+put_header-requires c =
+    let b = c.requires.buffer in
+    let p = c.requires.short in
+    let l = length-answer c.args.m.now c.args.host.now c.args.realm.now (reply_of c.args.m.now c.args.verdict c.args.failed c.args.extra c.args.echo) c.requires.given.least in
+    (omega arith, c.requires.given.least, omega (arith, c.put_avps-end.ensures.next))
+
+pub returns : goal.returns
+unfolding reply_of
+returns c =
+    let x = c.args in
+    let b = c.requires.buffer in
+    wrote-answer x.m.now x.host.now x.realm.now (reply_of c.args.m.now c.args.verdict c.args.failed c.args.extra c.args.echo) c.requires.given.least (omega arith) c.reply_flags.ensures c.put_avps-end.ensures c.put_header.ensures
