@@ -6,7 +6,7 @@ ghost use Rattle.std.specs.Prelude.{◌≤◌, length};
 ghost use Rattle.paper.specs.Desk.{most_frame};
 
 use dymosaw::desk::{Desk, LENGTH_SIZE, LINE_ROOM, MOST_FRAME, TABLE_ROOM};
-use libc::{STDIN_FILENO, STDOUT_FILENO};
+use std::io::{Read, Stdin, Stdout, Write};
 
 // Where the run stands after a frame, and whether it goes on.
 #[derive(Drop)]
@@ -15,20 +15,40 @@ struct After {
     goes_on: bool,
 }
 
+// Reads until the buffer is full, the input ends or a read fails, and returns how many bytes it put at the buffer's start.
+fn read_full(input: &mut Stdin, buffer: &mut [u8]) -> usize
+    ensures { result ≤ length buffer.new }
+{
+    let mut got = 0;
+    while got < buffer.len() {
+        let n = input.read(&mut buffer[got..]).unwrap_or(0);
+        if n == 0 {
+            return got;
+        }
+        got += n;
+    }
+    got
+}
+
 // Reads what there is of the next frame to the start of the buffer: its length field, then as many bytes as it says.
-fn read_frame(frame: &mut [u8]) -> usize
+fn read_frame(input: &mut Stdin, frame: &mut [u8]) -> usize
     requires { most_frame ≤ length frame.old }
     ensures { result ≤ most_frame }
 {
-    let got = io::read_full(STDIN_FILENO, &mut frame[..LENGTH_SIZE]);
+    let got = read_full(input, &mut frame[..LENGTH_SIZE]);
     let end = LENGTH_SIZE + dymosaw::desk::rest_size(&frame[..got]);
-    got + io::read_full(STDIN_FILENO, &mut frame[LENGTH_SIZE..end])
+    got + read_full(input, &mut frame[LENGTH_SIZE..end])
 }
 
 // A frame, if one comes. The line is written at once, so that a pipe sees it before the next frame.
-fn one_frame(table: &mut [u8; TABLE_ROOM], desk: Desk) -> After {
+fn one_frame(
+    input: &mut Stdin,
+    output: &mut Stdout,
+    table: &mut [u8; TABLE_ROOM],
+    desk: Desk,
+) -> After {
     let mut frame = [0u8; MOST_FRAME];
-    let got = read_frame(&mut frame);
+    let got = read_frame(input, &mut frame);
     if got == 0 {
         return After {
             desk,
@@ -38,7 +58,7 @@ fn one_frame(table: &mut [u8; TABLE_ROOM], desk: Desk) -> After {
     let mut line = [0u8; LINE_ROOM];
     let step = dymosaw::desk::step(table, desk, &frame[..got], &mut line);
     let length = step.line;
-    let is_written = io::write_all(STDOUT_FILENO, &line[..length]);
+    let is_written = output.write_all(&line[..length]).is_ok();
     let next = step.desk;
     After {
         desk: next,
@@ -46,18 +66,17 @@ fn one_frame(table: &mut [u8; TABLE_ROOM], desk: Desk) -> After {
     }
 }
 
-// A proved loop has to end, and nothing says that the input does: so it counts its frames down from a number that no run uses up.
-fn main() {
+// A proved loop has to end, and nothing says that the input does: so it counts its frames up to a number that no run reaches.
+fn main(rt: HostRuntime) {
+    let mut input = rt.stdin();
+    let mut output = rt.stdout();
     let mut table = dymosaw::desk::first_table();
     let mut desk = dymosaw::desk::first();
-    let mut budget = u64::MAX;
-    while budget > 0 {
-        let after = one_frame(&mut table, desk);
+    for _ in 0..u64::MAX {
+        let after = one_frame(&mut input, &mut output, &mut table, desk);
         if !after.goes_on {
             return;
         }
-        let next = after.desk;
-        desk = next;
-        budget -= 1;
+        desk = after.desk;
     }
 }

@@ -39,18 +39,18 @@ front_stored b x n e = let z : n ≡ 0 + length x = omega arith in rw z
 -- ---- a turn that was made
 
 pub made : {u : Turn} (l : Line) (t : List ℕ) (g : Bool) → turn_of l t g ≡ u → (b b' : List ℕ) (n : ℕ) → n ≡ length t → b' ≡ put 0 t b
-    → Made u b b' (record { line = l; used = n; goes_on_lem = g })
-made l t g e b b' n s p = subst (λ (v : Turn). Made v b b' (record { line = l; used = n; goes_on_lem = g })) e (record { line = refl; used = s; buffer = p; goes_on = refl })
+    → Made u b b' (record { line = l; used = n; goes_on = g })
+made l t g e b b' n s p = subst (λ (v : Turn). Made v b b' (record { line = l; used = n; goes_on = g })) e (record { line = refl; used = s; buffer = p; goes_on = refl })
 
 pub made_as : {u v : Turn} {b b' : List ℕ} {r : Turned} → u ≡ v → Made u b b' r → Made v b b' r
 made_as {b = b} {b' = b'} {r = r} e m = subst (λ (w : Turn). Made w b b' r) e m
 
 -- the table stays
-pub made_kept : {u : Turn} (l : Line) (g : Bool) (b : List ℕ) (n : ℕ) → n ≤ length b → turn_of l (take n b) g ≡ u → Made u b b (record { line = l; used = n; goes_on_lem = g })
+pub made_kept : {u : Turn} (l : Line) (g : Bool) (b : List ℕ) (n : ℕ) → n ≤ length b → turn_of l (take n b) g ≡ u → Made u b b (record { line = l; used = n; goes_on = g })
 made_kept l g b n h e = made l (take n b) g e b b n (sym (length-take-le n b h)) (front_kept b n h)
 
 -- the table was written where it stands
-pub made-there : {u : Turn} (l : Line) (x : List ℕ) (g : Bool) (b : List ℕ) (n : ℕ) → length x ≡ n → turn_of l x g ≡ u → Made u b (x ++ drop n b) (record { line = l; used = n; goes_on_lem = g })
+pub made-there : {u : Turn} (l : Line) (x : List ℕ) (g : Bool) (b : List ℕ) (n : ℕ) → length x ≡ n → turn_of l x g ≡ u → Made u b (x ++ drop n b) (record { line = l; used = n; goes_on = g })
 made-there l x g b n s e = made l x g e b (x ++ drop n b) n (sym s) (front_stored b x n s)
 
 -- ---- a request's line
@@ -154,7 +154,7 @@ size-within n e = let a = size-least n e in let b = size-most n e in (omega arit
 -- a turn that was made, on the table by another name for its size, and its line
 pub told : (f : List ℕ) {b b' l l' t : List ℕ} {d : Desk} {r : Turned} {size next : ℕ} → t ≡ table_in d b → Made (turn t f) b b' r → Wrote l 0 (line_bytes d.number r.line) l' size
     → next ≡ (d.number + 1) % 2 ^ 64
-    → Told (turn (table_in d b) f) d b l b' l' (record { desk = record { used = r.used; number = next }; line = size; goes_on_lem = r.goes_on_lem })
+    → Told (turn (table_in d b) f) d b l b' l' (record { desk = record { used = r.used; number = next }; line = size; goes_on = r.goes_on })
 told f {b = b} {l = l} {d = d} e m w n =
     let u = made_as (ap (λ (x : List ℕ). turn x f) e) m in
     record {

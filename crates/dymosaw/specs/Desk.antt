@@ -35,7 +35,7 @@ pub record Made (u : Turn) (b b' : List ℕ) (r : Turned) : Type 0 where
   pub line : r.line ≡ u.line
   pub used : r.used ≡ length u.table
   pub buffer : b' ≡ put 0 u.table b
-  pub goes_on : r.goes_on_lem ≡ u.goes_on
+  pub goes_on : r.goes_on ≡ u.goes_on
 
 -- the turn `u` was made, and its line stands at the start of the line's buffer `l`, which was left as `l'`
 pub record Told (u : Turn) (d : Desk) (b l b' l' : List ℕ) (r : Stepped) : Type 0 where
@@ -44,7 +44,7 @@ pub record Told (u : Turn) (d : Desk) (b l b' l' : List ℕ) (r : Stepped) : Typ
   pub buffer : b' ≡ put 0 u.table b
   pub size : r.line ≡ length (line_bytes d.number u.line)
   pub line : l' ≡ put 0 (line_bytes d.number u.line) l
-  pub goes_on : r.goes_on_lem ≡ u.goes_on
+  pub goes_on : r.goes_on ≡ u.goes_on
 
 -- the bytes of the buffer that are the table, all of them where the desk says more
 abbrev pub table_in : Desk → List ℕ → List ℕ

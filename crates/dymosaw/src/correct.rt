@@ -1,4 +1,4 @@
-// A correction of one record, for Rattle and for C.
+// A correction of one record, for Rattle, and as C has it (crates/dymosaw_c exports that).
 ghost use Rattle.std.specs.Prelude.{◌≡◌};
 ghost use Rattle.correction.specs.Answer as Answered;
 ghost use Rattle.paper.specs.Correction.{corrected};
@@ -14,8 +14,7 @@ pub fn correct(table: &mut [u8], frame: &[u8]) -> Answer
 }
 
 // The same for C: 0, or the refusal's number.
-#[unsafe(no_mangle)]
-pub extern "C" fn dymosaw_correct(table: &mut [u8], frame: &[u8]) -> u32
+pub fn dymosaw_correct(table: &mut [u8], frame: &[u8]) -> u32
     ensures { came_to result table.new ≡ corrected table.old frame.now }
 {
     correction::judge::number(correction::correct(table, frame))

@@ -1,5 +1,5 @@
 // A request from its bytes to the answer's bytes, the record and the list of nodes to cancel. It is decided first, with every buffer only read, and
-// written after. `serve` is the call for Rattle, `dymosaw_request` the one for C.
+// written after. `serve` is the call for Rattle, `dymosaw_request` the one for C, which crates/dymosaw_c exports.
 ghost use Rattle.std.specs.Prelude.{◌≡◌, ℕ, ◌+◌, ◌<◌, ◌≤◌, List, [], length};
 ghost use Rattle.std.proofs.Math.Option.{none};
 ghost use Rattle.wire.specs.Number.{num_at, Bytes};
@@ -336,8 +336,7 @@ pub fn serve(
 }
 
 // The same for C: the high 32 bits are the refusal's number, 0 where there is an answer, and the low 32 bits the answer's length.
-#[unsafe(no_mangle)]
-pub extern "C" fn dymosaw_request(
+pub fn dymosaw_request(
     table: &mut [u8],
     request: &[u8],
     host: &[u8],
