@@ -19,6 +19,7 @@ fn packed_of(code: u32, at: usize, end: usize) -> u64
         + (at % 16777216) as u64
 }
 
+#[tactic(auto, unfolding(crate::specs::Packed::packed))]
 #[unsafe(no_mangle)]
 pub extern "C" fn dymosaw_read_visit(m: &[u8]) -> u64
     ensures { result ≡ packed (message_of m.now).visit }
