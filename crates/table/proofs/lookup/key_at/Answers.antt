@@ -1,0 +1,10 @@
+-- `key_at` meets its contract: 16 bytes are two numbers of 8.
+-- Assumes nothing.
+use Rattle.table.specs.Found.{key_num}
+use Rattle.table.proofs.KeyLaws.{two_words}
+use Rattle.table.proofs.lookup.key_at.Goals as goal
+
+pub returns : goal.returns
+unfolding key_num
+returns c =
+    two_words c.args.s.now c.args.at c.get_u64-hi.result c.get_u64-lo.result c.requires c.get_u64-hi.ensures c.get_u64-lo.ensures
