@@ -94,7 +94,7 @@ pub struct Firsts {
 pub fn first_places(s: &[u8], keys: &[u64]) -> Firsts
     requires { length keys.now ≤ 16 }
     ensures noted { Noted s.now keys.now result.places }
-    ensures s_value { result.again ≡ false → first_second keys.now [] (avps 0 s.now) ≡ none }
+    ensures unrepeated { result.again ≡ false → first_second keys.now [] (avps 0 s.now) ≡ none }
 {
     let end = s.len();
     let mut places = [end; 16];

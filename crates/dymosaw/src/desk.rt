@@ -237,7 +237,7 @@ pub fn first() -> Desk
 // How many bytes of a frame stand behind its length field; 0 where that says no right size or was not read whole.
 pub fn rest_size(length: &[u8]) -> usize
     ensures value { result ≡ rest_size length.now }
-    ensures result_bound { 4 + result ≤ most_frame }
+    ensures fits { 4 + result ≤ most_frame }
 {
     if length.len() < LENGTH_SIZE {
         return 0;
@@ -266,7 +266,7 @@ pub fn step(
     line: &mut [u8; LINE_ROOM],
 ) -> Stepped
     ensures told { Told (turn (table_in desk buffer.old) frame.now) desk buffer.old line.old buffer.new line.new result }
-    ensures line_le_line_room { result.line ≤ line_room }
+    ensures line_fits { result.line ≤ line_room }
 {
     let turned = take_turn(buffer, used_of(desk), frame);
     let length = put_line(line, desk.number, turned.line);

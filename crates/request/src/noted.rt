@@ -18,7 +18,7 @@ use paper::layout::MESSAGE_HEADER;
 pub fn note(m: &[u8]) -> Firsts
     requires { message_header ≤ length m.now }
     ensures places { Places m.now result.places }
-    ensures m_value { result.again ≡ false → first_second noted_keys [] (avps_of m.now) ≡ none }
+    ensures unrepeated { result.again ≡ false → first_second noted_keys [] (avps_of m.now) ≡ none }
 {
     let list = Span {
         at: MESSAGE_HEADER,

@@ -15,13 +15,13 @@ pub returns-in-End : goal.returns-in-End
 returns-in-End c =
     let w = c.loop-places.invariant in
     let e = c.in-End.ensures in
-    record { noted = noting_end _ _ _ _ w.0 e; s_value = λ o. once_end _ _ _ _ (w.1 o) e }
+    record { noted = noting_end _ _ _ _ w.0 e; unrepeated = λ o. once_end _ _ _ _ (w.1 o) e }
 
 pub returns-in-Bad : goal.returns-in-Bad
 returns-in-Bad c =
     let w = c.loop-places.invariant in
     let e = c.in-Bad.ensures in
-    record { noted = noting_bad _ _ _ _ w.0 e; s_value = λ o. once_bad _ _ _ _ (w.1 o) e }
+    record { noted = noting_bad _ _ _ _ w.0 e; unrepeated = λ o. once_bad _ _ _ _ (w.1 o) e }
 
 pub loop-places-smaller-then-places-i : goal.loop-places-smaller-then-places-i
 loop-places-smaller-then-places-i c =
