@@ -1,0 +1,12 @@
+-- `procedures::carry::store_imei_if` meets its contract. An IMEI of 14 or 15 digits fits its field.
+-- Assumes nothing.
+use Rattle.paper.proofs.FieldLaws.{imei-size}
+use Rattle.paper.proofs.ProcedureLaws.{imei-sizes}
+use Rattle.procedures.proofs.NodeLaws.{held_inside}
+use Rattle.procedures.proofs.carry.store_imei_if.Goals as goal
+
+pub store_imei-requires : goal.store_imei-requires
+store_imei-requires c = (held_inside c.args.t.now c.args.i c.requires.0, imei-size c.args.imei.now (imei-sizes c.args.imei.now (c.requires.1 c.if-there.true)))
+
+pub returns-then-there : goal.returns-then-there
+returns-then-there c = rw c.if-there.true c.store_imei.ensures
