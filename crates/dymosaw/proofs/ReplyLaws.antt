@@ -9,7 +9,6 @@ use Rattle.paper.specs.declared.ExperimentalCode.{ExperimentalCode}
 use Rattle.paper.specs.declared.Failed.{Failed}
 use Rattle.paper.specs.declared.Failed.TheVariants.{Nothing}
 use Rattle.paper.specs.declared.Extra.{Extra}
-use Rattle.paper.specs.declared.Extra.TheVariants as Extra
 use Rattle.paper.specs.declared.Asked.{Asked}
 use Rattle.paper.specs.Layout.{record_size, imsi_size, most_digits, most_entries}
 use Rattle.paper.specs.Fields.{filled}
@@ -35,12 +34,10 @@ use Rattle.answer.specs.Ask.{AnswerAsk}
 use Rattle.answer.proofs.AskLaws.{answer-ask}
 use Rattle.procedures.specs.Values.{Held, code_of, Carried}
 use Rattle.procedures.specs.declared.verdict.Ruling.{Ruling}
-use Rattle.procedures.specs.declared.verdict.Ruling.TheVariants as Ruling
 use Rattle.request.specs.declared.tests.Test.{Test}
 use Rattle.request.specs.declared.tests.Test.TheVariants.{Fine, Fails}
 use Rattle.request.specs.Test.{refusal_in, PlacesIn, Answers}
 use Rattle.table.specs.declared.lookup.Found.{Found}
-use Rattle.table.specs.declared.lookup.Found.TheVariants as Found
 use Rattle.table.specs.Found.{place_of}
 use Rattle.dymosaw.specs.declared.serve.Served.TheVariants.{Answered}
 use Rattle.dymosaw.specs.Serve.{came_to, entries_in}

@@ -2,7 +2,7 @@
 ghost use Rattle.std.specs.Prelude.{◌≡◌, ◌+◌, ◌<◌, ◌≤◌, [], ◌∷◌, length};
 ghost use Rattle.wire.specs.Put.{Wrote};
 ghost use Rattle.paper.specs.Desk.{decimal, spaced, code_bytes, line_bytes};
-ghost use Rattle.paper.specs.Desk.{plain as Desk·plain};
+ghost use Rattle.paper.specs.Desk.{plain as plain_line};
 ghost use Rattle.dymosaw.specs.Desk.{line_room, line_of};
 
 use paper::Line;
@@ -90,7 +90,7 @@ pub fn put_line(out: &mut [u8], number: u64, line: Line) -> usize
 
 // A line of a frame that is not answered.
 pub fn plain(letter: u8, code: u32) -> Line
-    ensures { result ≡ Desk·plain letter code }
+    ensures { result ≡ plain_line letter code }
 {
     Line {
         letter,

@@ -325,7 +325,7 @@ pub fn serve(
     answer: &mut [u8],
     cancel: &mut [u8],
 ) -> Served
-    ensures cancel_after { came_to result table.new answer.new cancel.new ≡ outcome (lent table.old request.now host.now realm.now answer.old cancel.old) }
+    ensures comes_to { came_to result table.new answer.new cancel.new ≡ outcome (lent table.old request.now host.now realm.now answer.old cancel.old) }
     ensures bytes { Bytes request.now }
 {
     let number = silent_number(table, request, host, realm, answer, cancel);

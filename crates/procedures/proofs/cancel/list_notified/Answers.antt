@@ -13,7 +13,7 @@ overflow_sub-end c =
 pub put_zeros-requires : goal.put_zeros-requires
 put_zeros-requires c =
     let k = cancel_list-size c.args.t.now c.args.i c.requires.0 c.args.host.now c.args.slot (type_of c.args.how) c.requires.1 in
-    omega (arith, c.list_cancelled-end.ensures.next, c.list_cancelled-end.auto.cancel, c.requires.2)
+    omega (arith, c.list_cancelled-end.ensures.next, c.requires.2)
 
 pub returns : goal.returns
 returns c =

@@ -8,7 +8,7 @@ use Rattle.procedures.proofs.cancel.list_updated.Goals as goal
 pub list_cancelled-end-requires : goal.list_cancelled-end-requires
 list_cancelled-end-requires c =
     let j = listed-size c.args.t.now c.args.i c.requires.0 c.args.host.now c.args.own c.args.kind c.requires.1 in
-    (c.requires.0, c.requires.2, omega (arith, c.list_node-behind.ensures.next, c.list_node-behind.auto.cancel, c.requires.3))
+    (c.requires.0, c.requires.2, omega (arith, c.list_node-behind.ensures.next, c.requires.3))
 
 pub overflow_sub-end : goal.overflow_sub-end
 overflow_sub-end c =
@@ -20,7 +20,7 @@ pub put_zeros-requires : goal.put_zeros-requires
 put_zeros-requires c =
     let j = listed-size c.args.t.now c.args.i c.requires.0 c.args.host.now c.args.own c.args.kind c.requires.1 in
     let k = cancel_list-size c.args.t.now c.args.i c.requires.0 c.args.host.now c.args.other (type_of c.args.how) c.requires.2 in
-    omega (arith, c.list_cancelled-end.ensures.next, c.list_cancelled-end.auto.cancel, c.list_node-behind.ensures.next, c.list_node-behind.auto.cancel, c.requires.3)
+    omega (arith, c.list_cancelled-end.ensures.next, c.list_node-behind.ensures.next, c.requires.3)
 
 pub returns : goal.returns
 returns c =

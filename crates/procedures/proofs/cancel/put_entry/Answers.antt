@@ -8,5 +8,5 @@ use Rattle.procedures.proofs.cancel.put_entry.Goals as goal
 pub returns : goal.returns
 unfolding entry_bytes
 returns c =
-    wrote_then (omega (arith, c {-Start-})) c.put_bytes-first.ensures
-    (wrote_then (omega (arith, c, {-Start-} c {-After-put_bytes-})) c.put_bytes-behind.ensures c.put_zeros.ensures)
+    wrote_then (omega arith) c.put_bytes-first.ensures
+    (wrote_then (omega arith) c.put_bytes-behind.ensures c.put_zeros.ensures)

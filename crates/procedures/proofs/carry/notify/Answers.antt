@@ -1,22 +1,10 @@
 -- `procedures::carry::notify` meets its contract. The list is written before the node is cleared.
 -- Assumes nothing.
-use mathlib.Core.Logic.{inr}
 use Rattle.paper.specs.Avp.{bit}
 use Rattle.paper.specs.Procedures.{code_if}
 use Rattle.procedures.specs.Values.{type_of}
 use Rattle.procedures.proofs.NodeLaws.{notified-did}
 use Rattle.procedures.proofs.carry.notify.Goals as goal
-
-pub is_cleared-gone-requires : goal.is_cleared-gone-requires
-is_cleared-gone-requires c = (c.requires.0, inr c.sgsn_slot-sgsn.ensures)
-
-pub list_notified-requires : goal.list_notified-requires
-list_notified-requires c =
-    (c.requires.0, inr c.sgsn_slot-sgsn.ensures, c.requires.1)
-
-pub clear_if-requires : goal.clear_if-requires
-clear_if-requires c =
-    (c.requires.0, inr c.sgsn_slot-sgsn.ensures)
 
 pub returns : goal.returns
 returns c =

@@ -7,6 +7,3 @@ use Rattle.procedures.proofs.carry.store_imei_if.Goals as goal
 
 pub store_imei-requires : goal.store_imei-requires
 store_imei-requires c = (held_inside c.args.t.now c.args.i c.requires.0, imei-size c.args.imei.now (imei-sizes c.args.imei.now (c.requires.1 c.if-there.true)))
-
-pub returns-then-there : goal.returns-then-there
-returns-then-there c = rw c.if-there.true c.store_imei.ensures

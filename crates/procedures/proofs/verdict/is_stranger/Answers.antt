@@ -1,15 +1,8 @@
 -- `procedures::verdict::is_stranger` meets its contract. The sender is neither of the two nodes.
 -- Assumes nothing.
-use mathlib.Core.Logic.{inl, inr}
 use Rattle.paper.specs.Table.{record_of}
 use Rattle.procedures.proofs.VerdictLaws.{stranger-is}
 use Rattle.procedures.proofs.verdict.is_stranger.Goals as goal
-
-pub is_sender-requires : goal.is_sender-requires
-is_sender-requires c = (c.requires, inl c.mme_slot-mme.ensures)
-
-pub is_sender-requires-2 : goal.is_sender-requires-2
-is_sender-requires-2 c = (c.requires, inr c.sgsn_slot-sgsn.ensures)
 
 pub returns : goal.returns
 returns c =

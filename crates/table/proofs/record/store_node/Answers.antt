@@ -11,7 +11,7 @@ use Rattle.table.proofs.record.store_node.Goals as goal
 pub returns : goal.returns
 unfolding store_node
 returns c =
-    let a = c.before.args in
+    let a = c.args in
     c.store_counted.ensures
     ∙ ap (store a.i a.at (filled most_name a.name.now))
     (c.store_byte.ensures

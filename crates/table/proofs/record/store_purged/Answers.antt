@@ -11,6 +11,6 @@ use Rattle.table.proofs.record.store_purged.Goals as goal
 pub returns : goal.returns
 unfolding store_purged
 returns c =
-    let a = c.before.args in
+    let a = c.args in
     c.store_byte.ensures
     ∙ ap (λ (b : ℕ). store a.i purged_at (b ∷ []) a.t.now) (c.with_bit-b.ensures ∙ ap (with_bit a.bit) c.purged.ensures)
