@@ -15,7 +15,7 @@ use Rattle.paper.specs.Layout.{imsi_size, least_imsi, most_digits}
 use Rattle.paper.specs.Reader.{Placed, Avps}
 use Rattle.paper.specs.Find.{body_found}
 use Rattle.paper.specs.Profile.{Key, Command, commands, command_in, command_of, user_name, origin_host, visited_plmn_id}
-use Rattle.paper.specs.Request.{avps_of, find, value_of, is_there, has, used_in, required_in, used, imei_of, refuse, is_command, command_test, missing, first_absent, absent_test, value_test, imsi_digits, is_name, three_bytes, imei_digits, if_used, values_test, refusal, command_code}
+use Rattle.paper.specs.Request.{avps_of, find, value_of, is_there, has, used_in, required_in, imei_of, refuse, is_command, command_test, missing, first_absent, absent_test, value_test, imsi_digits, is_name, three_bytes, imei_digits, if_used, values_test, refusal, command_code}
 use Rattle.paper.specs.Procedures.{sender, imsi_field}
 use Rattle.paper.proofs.ViewLaws.{or_else_none}
 use Rattle.paper.proofs.FieldLaws.{length-filled}

@@ -20,7 +20,7 @@ use Rattle.dictionary.specs.Rows.{kind_of}
 use Rattle.dictionary.specs.Kinds.{size_right}
 use Rattle.dictionary.specs.declared.Kind.TheVariants.{Four, Group, Unknown}
 use Rattle.paper.specs.Avp.{Avp, head_size, code_of, flags_of, length_of, vendor_of, body_of, avp_of, as_received}
-use Rattle.paper.specs.Reader.{avps, view, most_groups}
+use Rattle.paper.specs.Reader.{view, most_groups}
 use Rattle.paper.specs.Find.{member}
 use Rattle.paper.specs.Widened.{OneAvp, if_mandatory, Widened, mended, stripped, Inserted, with_flags, flipped, Clear, shown_of}
 use Rattle.paper.specs.Layout.{message_header, least_request, most_request}

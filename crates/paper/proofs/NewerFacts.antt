@@ -14,7 +14,7 @@ use Rattle.dictionary.specs.declared.Kind.{Kind}
 use Rattle.dictionary.specs.declared.Kind.TheVariants.{Group, Unknown}
 use Rattle.paper.specs.Find.{member}
 use Rattle.paper.specs.Profile.{Key, commands, command_in, command_of, ulr, pur, nor, session_id, user_name, origin_host, proxy_info, rat_type, visited_plmn_id, terminal_information, imei, ulr_flags, nor_flags, pur_flags}
-use Rattle.paper.specs.Request.{has, used_in, required_in, terminal, key_number}
+use Rattle.paper.specs.Request.{has, used_in, required_in, key_number}
 use Rattle.paper.specs.Newer.{top_level, uses, named_bits, of_bits, named_use, seen_by}
 use Rattle.paper.proofs.CommandLaws.{Recognized, by-command}
 use Rattle.paper.proofs.KindLaws.{known, leaf_kind}

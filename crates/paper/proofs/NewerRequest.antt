@@ -18,7 +18,7 @@ use Rattle.paper.specs.Reader.{Placed, placed, stump, Faulty, Known, ◌then◌,
 use Rattle.paper.specs.Find.{first_second}
 use Rattle.paper.specs.Widened.{Clear, shown_of}
 use Rattle.paper.specs.Layout.{message_header}
-use Rattle.paper.specs.Profile.{Key, application, command_of, session_id, user_name, origin_host, proxy_info, visited_plmn_id, imei}
+use Rattle.paper.specs.Profile.{Key, command_of, session_id, user_name, origin_host, proxy_info, visited_plmn_id, imei}
 use Rattle.paper.specs.Request.{message_length, command_code, application_of, avps_of, view_of, find, is_there, has, used_in, terminal, imei_of, key_number, refuse, version_test, length_test, error_test, of_fault, fault_test, application_test, command_test, of_found, unsupported_test, earlier, repeated, repeated_test, absent_test, value_test, imsi_digits, is_name, three_bytes, imei_digits, if_used, values_test, refusal}
 use Rattle.paper.specs.Answer.{each_of}
 use Rattle.paper.specs.Newer.{top_level, seen_by, SameHeader, Fits}

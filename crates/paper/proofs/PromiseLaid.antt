@@ -1,16 +1,16 @@
 -- Promise: the reader's AVPs of a stretch are those that its bytes hold, by numbers in their places.
 -- Assumes nothing.
-use mathlib.Core.Path.{◌≡◌, refl, sym, ap, ◌∙◌}
-use mathlib.Core.Logic.{◌≢◌, ◌⊎◌, inl, inr}
+use mathlib.Core.Path.{◌≡◌, refl, ap}
+use mathlib.Core.Logic.{◌⊎◌, inl, inr}
 use mathlib.Core.Bool.{Bool, true, false, ◌&&◌}
-use mathlib.Core.List.{List, []}
+use mathlib.Core.List.{List}
 use Prim.Native.Nat.{ℕ, ◌+◌, ◌≤◌, ◌<◌}
 use native.Mathlib.Omega.{arith}
 use lib.Dec.{leb}
 use lib.ListN.{length}
 use borrow.Author.Tests.{leb-true, leb-false}
 use Rattle.wire.proofs.ListLaws.{and-true-left, and-true-right}
-use Rattle.paper.specs.Avp.{head_size, padded, vendor_of, framed, body_of, after, avp_of, bare_of, length_of, flags_of}
+use Rattle.paper.specs.Avp.{head_size, padded, vendor_of, framed, body_of, after, avp_of, bare_of, length_of}
 use Rattle.paper.specs.Reader.{Avps, avps, more, broken, placed, stump}
 use Rattle.paper.specs.Laid.{head_at, length_at, room_at, head_laid, Laid, ends, holds, breaks}
 use Rattle.paper.proofs.AvpsLaws.{avps_induction}

@@ -21,7 +21,7 @@ use Rattle.paper.specs.Answer.{Reply, reply_avps}
 use Rattle.paper.specs.Passed.{Passed}
 use Rattle.paper.specs.Outcome.{Lent, Outcome, silent, answered, refusal_reply, experimental_reply, success_reply, outcome}
 use Rattle.paper.specs.Read.{before, answer_of, entries_in, listed_by}
-use Rattle.paper.specs.Refusals.{Said, result, experimental, said_by, said, is_answered}
+use Rattle.paper.specs.Refusals.{Said, result, said_by, said, is_answered}
 use Rattle.paper.specs.Promises.{Accepted}
 use Rattle.paper.specs.Profile.{Key, key}
 use Rattle.paper.specs.Find.{body_found}

@@ -9,7 +9,6 @@ use Rattle.paper.specs.declared.Verdict.TheVariants.{Base, Experimental}
 use Rattle.paper.specs.declared.Failed.{Failed}
 use Rattle.paper.specs.declared.Failed.TheVariants.{Nothing}
 use Rattle.paper.specs.declared.Extra.{Extra}
-use Rattle.paper.specs.declared.Extra.TheVariants as Extra
 use Rattle.paper.specs.Layout.{ambr_at}
 use Rattle.paper.specs.Request.{Refusal}
 use Rattle.paper.specs.Procedures.{restriction_of, Done, is_ulr, is_pur, skip_subscriber_data}

@@ -8,14 +8,13 @@ use Rattle.dictionary.specs.declared.Kind.{Kind}
 use Rattle.dictionary.specs.declared.Kind.TheVariants.{Four, Eight, Any, Group, Closed, Unknown}
 use Rattle.dictionary.specs.Rows.{kind_of}
 use Rattle.paper.specs.declared.Visit.TheVariants.{Clean}
-use Rattle.paper.specs.Avp.{Avp, bit, bare_of}
+use Rattle.paper.specs.Avp.{Avp, bit}
 use Rattle.paper.specs.Reader.{Placed, Avps, whole, broken, more, avps, body_at, Faulty, or_else, told}
 use Rattle.paper.specs.Find.{has_key}
 use Rattle.paper.specs.Profile.{Key, key}
 use Rattle.paper.specs.Request.{avps_of, view_of, find, is_there, inside, value_of, number_of, repeated}
 use Rattle.paper.specs.Procedures.{Entry}
 use Rattle.paper.specs.Widened.{shown_of}
-use Rattle.paper.specs.Shown.{stretch}
 use Rattle.paper.specs.ShownIn.{Standing}
 use Rattle.paper.specs.Outcome.{Lent, Outcome, outcome}
 use Rattle.paper.specs.Read.{before, answer_in, codes_in, listed_in, list_laid, of_nodes}

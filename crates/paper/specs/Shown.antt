@@ -8,7 +8,6 @@ use Rattle.paper.specs.declared.Verdict.TheVariants.{Base, Experimental}
 use Rattle.paper.specs.declared.Failed.{Failed}
 use Rattle.paper.specs.declared.Failed.TheVariants.{Nothing, Whole, Bare, Missing}
 use Rattle.paper.specs.declared.Extra.{Extra}
-use Rattle.paper.specs.declared.Extra.TheVariants as Extra
 use Rattle.paper.specs.Avp.{Avp, avp_of, bare_of, flags_for}
 use Rattle.paper.specs.Profile.{ula_flags, pua_flags}
 use Rattle.paper.specs.Answer as Answer

@@ -237,9 +237,9 @@ ran_more n last r a next w to g i =
       same = λ p q. rw (pieces, avps-one q (part to (n - to) last) (one r a next w to g), avps-more p _ f, behind r a next w to g, alike r a next w to g, i.same (p + padded (length_of (drop r.at r.stretch))) (q + length x));
     }
 
-ran : {s last out : List ℕ} {n at to : ℕ} → Rewritten s n last at to out → Ran s n last at to out
-ran {last = last} {n = n} (no_more r e q) = subst (λ (l : List ℕ). Ran l n last r.at n last) e (ran_none n last r q)
-ran {last = last} {n = n} (one_more r a next w to e g more) =
+ran : {n : ℕ} {s last out : List ℕ} {at to : ℕ} → Rewritten s n last at to out → Ran s n last at to out
+ran {n = n} {last = last} (no_more r e q) = subst (λ (l : List ℕ). Ran l n last r.at n last) e (ran_none n last r q)
+ran {n = n} {last = last} (one_more r a next w to e g more) =
     subst (λ (l : List ℕ). Ran l n last r.at w.at w.out) e
     (ran_more n last r a next w to g (subst (λ (l : List ℕ). Ran l n last next to w.after) (sym e) (ran more)))
 
