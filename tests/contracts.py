@@ -1,14 +1,15 @@
 """contracts.py [--self-test]: no function that another crate or a caller can name is without a statement.
 
-Every `pub fn` of crates/*/src has an `ensures`. The public calls are those of crate dymosaw, in the modules that its lib.rt makes public: none of them has a
-`requires`, since C and any bytes come in there, and each has its row in docs/STATEMENTS.md, "Two outcomes allowed for one input".
+Every `pub fn` of crates/*/src has an `ensures`. The public calls are those of crate dymosaw and of crate dymosaw_c, which hands two of them to C, in the
+modules that their lib.rt make public: none of them has a `requires`, since C and any bytes come in there, and each has its row in docs/STATEMENTS.md, "Two
+outcomes allowed for one input".
 With --self-test damaged copies must each be found out.
 """
 import re
 
 from damaged import verdict
 
-PUBLIC = "crates/dymosaw/src/"
+PUBLIC = ("crates/dymosaw/src/", "crates/dymosaw_c/src/")
 PAGE, HEADING = "docs/STATEMENTS.md", "## Two outcomes allowed for one input"
 
 
@@ -27,7 +28,7 @@ def clauses_of(text, at):
     at = closing(text, at, "()")
     found = []
     while True:
-        word = re.compile(r"\b(requires|ensures)\s*(?=\{)|\{").search(text, at)
+        word = re.compile(r"\b(requires|ensures)\b(?:\s+\w+)?\s*(?=\{)|\{").search(text, at)
         if not word.group(1):
             return found
         at = closing(text, word.end(), "{}")
@@ -37,13 +38,14 @@ def clauses_of(text, at):
 def public_functions(text):
     """(name, clauses) of each public function of a file."""
     bare = re.sub(r"//[^\n]*", "", text)
-    return [(f.group(1), clauses_of(bare, f.end() - 1)) for f in re.finditer(r'\bpub (?:extern "C" )?fn (\w+)\s*\(', bare)]
+    return [(f.group(1), clauses_of(bare, bare.index("(", f.end()))) for f in re.finditer(r'\bpub (?:const )?(?:extern "C" )?fn (\w+)', bare)]
 
 
 def is_public(path, texts):
     """The file is one of the product's public modules."""
-    module = path[len(PUBLIC) : -len(".rt")]
-    return path.startswith(PUBLIC) and (module == "lib" or re.search(rf"^pub mod {module};", texts[f"{PUBLIC}lib.rt"], re.M))
+    home = next((it for it in PUBLIC if path.startswith(it)), None)
+    module = path[len(home or "") : -len(".rt")]
+    return home and (module == "lib" or re.search(rf"^pub mod {module};", texts[f"{home}lib.rt"], re.M))
 
 
 def calls_of(texts):
@@ -63,7 +65,7 @@ def complaints(texts):
             wrong.append(f"{path}: {name} ensures nothing")
         if public and any(word == "requires" for word, _ in clauses):
             wrong.append(f"{path}: {name} is a public call and has a requires")
-        if public and f"`dymosaw:{name}`" not in rows:
+        if public and f"`{path.split('/')[1]}:{name}`" not in rows:
             wrong.append(f"{path}: {name} is a public call and has no row in {PAGE}, '{HEADING[3:]}'")
     return wrong
 
@@ -76,10 +78,13 @@ def count(texts):
 # Each damage: a file, one text for another, and the complaint that is due.
 DAMAGES = [
     ("crates/dymosaw/src/correct.rt", "    ensures {", "    requires {", "correct.rt: correct ensures nothing"),
-    ("crates/dymosaw/src/correct.rt", "    ensures {", "    requires { ⌜ 1 ≡ 1 ⌝ }\n    ensures {", "correct.rt: correct is a public call and has a requires"),
-    ("crates/dymosaw/src/correct.rt", "dymosaw_correct(", "dymosaw_mend(", "dymosaw_mend is a public call and has no row"),
+    ("crates/dymosaw/src/correct.rt", "    ensures {", "    requires { 1 ≡ 1 }\n    ensures {", "correct.rt: correct is a public call and has a requires"),
+    ("crates/dymosaw/src/correct.rt", "fn dymosaw_correct(", "fn dymosaw_mend(", "dymosaw_mend is a public call and has no row"),
+    ("crates/dymosaw_c/src/lib.rt", "fn dymosaw_correct(", "fn dymosaw_mend(", "dymosaw_mend is a public call and has no row"),
+    ("crates/dymosaw_c/src/lib.rt", "    ensures {", "    requires {", "lib.rt: dymosaw_correct ensures nothing"),
+    ("crates/dymosaw/src/serve.rt", "    ensures bytes {", "    requires bytes {", "serve.rt: serve is a public call and has a requires"),
     ("crates/wire/src/put.rt", "pub fn", "pub fn silent(x: u8) -> u8 {\n    x\n}\n\npub fn", "silent ensures nothing"),
-    ("crates/avp/src/cursor.rt", "pub fn", "pub fn empty(x: [u8; 4]) -> u8\n    ensures { λ r. ⌜ ⊤ ⌝ }\n{\n    0\n}\n\npub fn", "empty ensures nothing"),
+    ("crates/avp/src/cursor.rt", "pub fn", "pub fn empty(x: [u8; 4]) -> u8\n    ensures { ⊤ }\n{\n    0\n}\n\npub fn", "empty ensures nothing"),
 ]
 
 

@@ -79,7 +79,7 @@ def check_counts(text, rows):
 
 
 def numbers_of_kinds(crate):
-    return {kind: int(number) for kind, number in re.findall(r"^numberOf (\w+) = (\d+)$", read(f"{crate}/specs/Kinds.antt"), re.M)}
+    return {kind: int(number) for kind, number in re.findall(r"^number_of (\w+) = (\d+)$", read(f"{crate}/specs/Kinds.antt"), re.M)}
 
 
 def array(text, name):
@@ -144,7 +144,7 @@ DAMAGES = [
     (SPEC, "    row 0 284 ", ("Closed", "Group"), "the specification at Proxy-Info"),
     (SPEC, "    row 10415 1719 ", None, "the specification: 324 rows"),
     (SPEC, "    row 10415 1404 ", "    row 10415 1405 ", "the specification at QoS-Subscribed"),
-    (KINDS, "numberOf Eight = 8", ("8", "4"), "KINDS at Accounting-Sub-Session-Id"),
+    (KINDS, "number_of Eight = 8", ("8", "4"), "KINDS at Accounting-Sub-Session-Id"),
 ]
 
 

@@ -1,97 +1,148 @@
-"""must_fail.py LOG: holds the comment of every must-fail edit against the places at which the prover refuses it.
+"""must_fail.py [--tell | --write] LOG [NAME..]: holds the comment of every must-fail edit against the places at which the prover refuses it.
 
-Each crates/NAME/must-fail/LABEL.edit has a line `# refused at: FILE NEED`: the file, below the crate, and the declaration in it that states the
-fact which the edit breaks. `rt ci` prints `must-fail NAME/LABEL: refused, as it must be (first at FILE:LINE:COLUMN; .. s)`, and leaves the edited
-crate and the prover's log below target/must-fail/NAME/LABEL. The place has to be one that the prover refuses by itself, and not behind another.
+Each crates/CRATE/must-fail/LABEL.edit has a line `# refused at: PLACE` (tests/refusals.py has its two forms): a place that states the fact which the edit
+breaks, and which the prover refuses by itself, and not behind another. LOG is what `rt ci` printed. It names the first place alone, and keeps no log of an
+edit; where a comment names another, the edited crate is checked once more, in a copy outside the checkout, and its whole log is read.
+
+--tell prints for each edit the line `# refused at: ..` of its first place, and whether its comment is right; --write puts that line into each edit whose comment
+is not. NAME is a crate or CRATE/LABEL, and stands for all where it is left out.
 """
+import concurrent.futures
 import glob
 import os
 import re
 import sys
 
+import refusals
 
-def promised(edit):
-    """The file and the need that the edit's comment names, or None."""
-    with open(edit, encoding="utf-8") as lines:
-        for line in lines:
-            found = re.match(r"# refused at: (\S+) (\S+)\s*$", line)
-            if found:
-                return found.groups()
+TOLD = re.compile(r"^(?:rt: )?must-fail (\w+)/(\S+?)(?:\.edit)?: (refused, as it must be|BAD EDIT|NOT REFUSED|NOT TRIED)(.*)$", re.M)
+# What `rt ci` counts as refused and what shows nothing of a contract.
+SHOWS_NOTHING = ("(only because a proof file names what the edit took away", "(only by a limit of the prover")
+
+
+def edits_named(names):
+    """The edits of these crates, or of these names; all where none is given."""
+    edits = sorted(glob.glob("crates/*/must-fail/*.edit"))
+    return [edit for edit in edits if not names or {edit.split("/")[1], name_of(edit)} & set(names)]
+
+
+def name_of(edit):
+    """CRATE/LABEL of an edit."""
+    return f"{edit.split('/')[1]}/{os.path.basename(edit)[: -len('.edit')]}"
+
+
+def told_of(log):
+    """What `rt ci` said of each edit: the verdict and the rest of its line."""
+    return {f"{crate}/{label}": (verdict, rest.removeprefix(": ")) for crate, label, verdict, rest in TOLD.findall(log)}
+
+
+def unfit(edit, told):
+    """Why an edit shows nothing, whatever its comment says, or None."""
+    folder = f"crates/{edit.split('/')[1]}"
+    if any(file.startswith("proofs/") for file, _, _ in refusals.replacements(edit)[1]):
+        return "it edits a proof, which shows nothing"
+    why = refusals.edited(edit, folder)[1]
+    if why:
+        return why
+    if name_of(edit) not in told:
+        return "rt ci said nothing of it"
+    verdict, rest = told[name_of(edit)]
+    if verdict != "refused, as it must be":
+        return f"{verdict}{rest}"
+    if any(word in rest for word in SHOWS_NOTHING):
+        return f"rt ci says of it{rest[:200]}"
+    place = refusals.place_of(rest)
+    if place and ": error: " in rest and not place.file.startswith("proofs/"):
+        return f"what it edits is itself in error: {rest[:200]}"
     return None
 
 
-def edits_proof(edit):
-    """The edit changes a proof, and not only code or definitions."""
-    with open(edit, encoding="utf-8") as text:
-        return re.search(r"^file: proofs/", text.read(), re.M)
+def first_of(edit, told):
+    """The first place of an edit, as `rt ci` printed it, or None."""
+    return refusals.place_of(told[name_of(edit)][1])
 
 
-def enclosing(path, number):
-    """The names of the declarations that hold the line: of each lesser indent the nearest signature above it, or the function's name."""
-    with open(path, encoding="utf-8") as text:
-        lines = text.read().split("\n")
-    names, indent = [], None
-    for line in reversed(lines[:number]):
-        found = re.match(r"( *)(?:pub |abbrev |unfoldable |extern \"C\" )*(?:fn (\w+)|(\S+) (?=:( |$)))", line)
-        if found and (indent is None or len(found.group(1)) < indent):
-            indent = len(found.group(1))
-            names.append(found.group(2) or found.group(3))
-        if indent == 0:
-            break
-    return names
-
-
-# An error that only says that it stands behind another, and one that only says that the proof file no longer fits.
-BEHIND = "was not admitted"
-UNFIT = ("has no `Need-", "expected type `tie.Need-")
-
-
-def roots(log):
-    """The errors of a log that stand behind no other: the file below the crate, its line, and the declaration that the error names."""
-    found = []
-    for path, number, text in re.findall(r"^(\S+?):(\d+):\d+: error: (.*)$", log, re.M):
-        if not any(word in text for word in (BEHIND, *UNFIT)):
-            name = re.match(r"`([^`]+)`: ", text)
-            found.append((re.sub(r"^.*/(?=(proofs|specs|src)/)", "", path), int(number), name.group(1) if name else "?"))
-    return found
-
-
-def complaint(edit, places):
-    """What is wrong with an edit, or None."""
-    crate, label = edit.split("/")[1], os.path.basename(edit)[: -len(".edit")]
-    name = f"{crate}/{label}"
-    promise = promised(edit)
-    if not promise:
-        return f"{name}: no comment '# refused at: FILE NEED'"
-    if edits_proof(edit):
-        return f"{name}: it edits a proof, which shows nothing"
-    if name not in places:
-        return f"{name}: rt ci printed no place for it"
-    folder = f"target/must-fail/{name}"
-    with open(f"{folder}/.log", encoding="utf-8") as log:
-        text = log.read()
-    first = next((line for line in text.split("\n") if ": error" in line), "")
-    if any(word in first for word in UNFIT):
-        return f"{name}: the edit only made the proof file unfit: {first.strip()[:200]}"
-    refusals = roots(text) if first else [(*places[name], "?")]
-    own = [file for file, _, _ in refusals if first and not file.startswith("proofs/")]
+def elsewhere(edit, copies):
+    """What is wrong with an edit whose comment names another place than the first, by the whole log of its check, or None."""
+    crate, named = edit.split("/")[1], refusals.promised(edit)
+    why = copies.begin(crate)
+    if why:
+        return why
+    _, status, log = copies.check(crate, refusals.edited(edit, f"crates/{crate}")[0])
+    if status != 1 or not re.search(r"^logic=not-proved", log, re.M):
+        return f"the check of a copy ended with status {status}: {log[-300:]}"
+    own = [place for place in refusals.errors(log) if not place.file.startswith("proofs/")]
     if own:
-        return f"{name}: what it edits is itself in error: {own[0]}"
-    if any(file == promise[0] and promise[1] in enclosing(f"{folder}/{file}", number) for file, number, _ in refusals):
+        return f"what it edits is itself in error: {own[0].file}:{own[0].line}"
+    places = refusals.roots(log, crate)
+    if any(refusals.is_named(place, named, f"crates/{crate}") for place in places):
         return None
-    told = ", ".join(f"{file}:{number} {need}" for file, number, need in refusals)
-    return f"{name}: refused at {told}; its comment says {' '.join(promise)}"
+    found = ", ".join(dict.fromkeys(refusals.shown(refusals.named_by(place, f"crates/{crate}")) for place in places))
+    return f"refused at {found or 'no place'}; its comment says {refusals.shown(named)}"
 
 
-def main():
-    with open(sys.argv[1], encoding="utf-8") as log:
-        told = re.findall(r"must-fail (\S+): refused, as it must be \(first at ([^:;]+):(\d+):", log.read())
-    places = {name: (file, int(number)) for name, file, number in told}
-    edits = sorted(glob.glob("crates/*/must-fail/*.edit"))
-    wrong = [text for text in (complaint(edit, places) for edit in edits) if text]
-    print("\n".join(wrong + [f"{len(edits)} must-fail edits, {len(wrong)} not refused where they say"]))
+def complaints(edits, told):
+    """What is wrong with each edit, by its name; nothing of those that are right."""
+    wrong, later = {}, {}
+    for edit in edits:
+        named, why = refusals.promised(edit), unfit(edit, told)
+        if why or not named:
+            wrong[edit] = why or "no comment '# refused at: PLACE'"
+            continue
+        first = first_of(edit, told)
+        if not (first and refusals.is_named(first, named, f"crates/{edit.split('/')[1]}")):
+            later.setdefault(edit.split("/")[1], []).append(edit)
+    for crate, those in later.items():
+        copies = refusals.Copies(refusals.below(crate))
+        try:
+            why = copies.begin(crate)
+            with concurrent.futures.ThreadPoolExecutor(refusals.jobs()) as pool:
+                found = dict(zip(those, [why] * len(those) if why else pool.map(lambda edit: elsewhere(edit, copies), those)))
+        finally:
+            copies.end()
+        wrong.update({edit: why for edit, why in found.items() if why})
+    return wrong
+
+
+def tell(edits, told, wrong):
+    """Prints the first place of each edit, and what is wrong with its comment."""
+    for edit in edits:
+        first = first_of(edit, told) if name_of(edit) in told else None
+        place = refusals.shown(refusals.named_by(first, f"crates/{edit.split('/')[1]}")) if first else "?"
+        print(f"{name_of(edit)}: # refused at: {place}{f' -- {wrong[edit]}' if edit in wrong else ''}")
+
+
+def rewrite(edit, told):
+    """Puts the first place of an edit into its comment, and returns whether it could."""
+    first = first_of(edit, told) if name_of(edit) in told and told[name_of(edit)][0].startswith("refused") else None
+    if not first:
+        return False
+    line = f"# refused at: {refusals.shown(refusals.named_by(first, f'crates/{edit.split(chr(47))[1]}'))}"
+    text = refusals.read(edit)
+    if re.search(r"^# refused at:.*$", text, re.M):
+        refusals.write(edit, re.sub(r"^# refused at:.*$", lambda _: line, text, count=1, flags=re.M))
+    else:
+        refusals.write(edit, re.sub(r"^(?=file: |crate: )", lambda _: line + "\n", text, count=1, flags=re.M))
+    return True
+
+
+def main(words):
+    mode = words.pop(0) if words[:1] in (["--tell"], ["--write"]) else None
+    if not words:
+        sys.exit(__doc__)
+    edits, told = edits_named(words[1:]), told_of(refusals.read(words[0]))
+    wrong = complaints(edits, told)
+    if mode == "--write":
+        left = [edit for edit in wrong if not rewrite(edit, told)]
+        print("\n".join([f"{name_of(edit)}: {wrong[edit]}" for edit in left] + [f"{len(wrong) - len(left)} comments written, {len(left)} left as they are"]))
+        return 1 if left else 0
+    if mode == "--tell":
+        tell(edits, told, wrong)
+    else:
+        print("\n".join(f"{name_of(edit)}: {why}" for edit, why in wrong.items()))
+    print(f"{len(edits)} must-fail edits, {len(wrong)} not refused where they say")
     return 1 if wrong or not edits else 0
 
 
 if __name__ == "__main__":
-    sys.exit(main())
+    sys.exit(main(sys.argv[1:]))

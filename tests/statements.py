@@ -19,14 +19,18 @@ def read(pattern):
     return "\n".join(texts)
 
 
+def signature(name):
+    """The pattern of a line that declares this name in specs/ or proofs/."""
+    return rf"^\s*(?:pub |abbrev |unfoldable |pattern |record |data |infix\w* \d+ )*{re.escape(name)}(?: |$)"
+
+
 @functools.lru_cache(maxsize=None)
 def declared(crate, name):
     """The crate has a definition, a law, a type or a function of this name."""
-    proofs = read(f"crates/{crate}/**/*.antt")
-    code = read(f"crates/{crate}/src/**/*.rt")
-    signature = rf"^\s*(?:pub |abbrev |unfoldable |record |data |infix\w* \d+ )*{re.escape(name)}(?: |$)"
     item = rf"\b(?:fn|struct|enum|const) {re.escape(name)}\b"
-    return re.search(signature, proofs, re.M) or re.search(item, code)
+    return any(re.search(signature(name), read(f"crates/{crate}/{part}/**/*.antt"), re.M) for part in ("specs", "proofs")) or re.search(
+        item, read(f"crates/{crate}/src/**/*.rt")
+    )
 
 
 def there(citation):
@@ -58,11 +62,12 @@ def complaints(text):
 
 def self_test(text):
     """A name, an edit, a test and a case that are not there must each be found out."""
-    for damage in ("wire:no-such-law", "wire/no_such_edit", "test:no-such-test", "case:no-such-case", "unit:no_such_test"):
-        if not complaints(text + f"\n| a sentence | `{damage}` | | |\n"):
+    known = set(complaints(text))
+    for damage in ("wire:no_such_law", "wire:put_be_", "wire/no_such_edit", "test:no-such-test", "case:no-such-case", "unit:no_such_test"):
+        if not set(complaints(text + f"\n| a sentence | `{damage}` | | |\n")) - known:
             print(f"passed over: {damage}")
             return 1
-    if not complaints(text + "\n| a sentence | nothing | | |\n"):
+    if not set(complaints(text + "\n| a sentence | nothing | | |\n")) - known:
         print("passed over: a row that cites nothing")
         return 1
     return 0

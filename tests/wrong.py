@@ -1,23 +1,23 @@
 """wrong.py [LABEL..]: tries every wrong definition of tests/wrong, or those named, and tells where the prover refuses it.
 
 tests/wrong/LABEL.edit is document 01 written wrong: the form of a must-fail edit, its comment 01's sentence, what is wrong, and a line
-`# refused at: FILE NEED` that names a place which refuses it, a promise or a closed example where one does. The edits are tried on a copy of the
-three crates below the code (build/wrong). An edit of a crate below `paper` has a line `crate: NAME` and is tried by proving that crate and `paper`.
+`# refused at: FILE NAME` that names a place which refuses it, a promise or a closed example where one does. The edits are tried in copies of the
+three crates below the code, outside the checkout, RT_JOBS at a time. An edit of a crate below `paper` has a line `crate: NAME` and is tried by proving that
+crate and `paper`.
 
 An edit is refused only if the prover read it and refused a proof; a definition that is itself in error is unfit, a text that is not found is an error.
 """
+import concurrent.futures
 import glob
 import os
 import re
 import shutil
-import subprocess
 import sys
 
-from must_fail import promised, roots
+import refusals
 
 CRATES = ["wire", "dictionary", "paper"]
 EDITS = "tests/wrong"
-SCRATCH = "build/wrong"
 
 # What the customer reads: promises, where the literal words of one are held against the definitions, and closed examples, which compute a definition on
 # bytes. Every other file of proofs/ is laws by the definitions' shape, those of promises too.
@@ -45,115 +45,47 @@ def label_of(edit):
     return os.path.basename(edit)[: -len(".edit")]
 
 
-def replacements(edit):
-    """The crate of an edit, and its (file, old, new) in order."""
-    crate, file, old, found = "paper", None, None, []
-    with open(edit, encoding="utf-8") as lines:
-        for line in lines.read().split("\n"):
-            word, _, text = line.partition(": ")
-            if word == "crate":
-                crate = text
-            elif word == "file":
-                file = text
-            elif word == "old":
-                old = text
-            elif line.startswith("new:"):
-                found.append((file, old, text))
-    return crate, found
-
-
 def edited(edit):
     """The crate of an edit and its edited texts by file, or why it cannot be tried: each old text stands once in its file, which holds no proof."""
-    crate, parts = replacements(edit)
+    crate, parts = refusals.replacements(edit)
+    crate = crate or "paper"
     if crate not in CRATES or not parts:
         return crate, {}, "it names no crate below the code, or replaces nothing"
-    texts = {}
-    for file, old, new in parts:
-        path = f"crates/{crate}/{file}"
-        if not re.match(r"(specs|src)/[\w/]+\.(antt|rt)$", file or "") or PROMISES.match(file) or not os.path.exists(path):
+    for file, _, _ in parts:
+        if not re.match(r"(specs|src)/[\w/]+\.(antt|rt)$", file or "") or PROMISES.match(file):
             return crate, {}, f"{file} holds no definition of {crate} that a promise is about"
-        text = texts.get(file) or read(path)
-        if not old or old == new or text.count(old) != 1:
-            return crate, {}, f"a text does not stand once in {file}, or is replaced by itself: {old}"
-        texts[file] = text.replace(old, new)
-    return crate, texts, None
+    return crate, *refusals.edited(edit, f"crates/{crate}")
 
 
-def read(path):
-    """A file's text."""
-    with open(path, encoding="utf-8") as text:
-        return text.read()
-
-
-def write(path, text):
-    """Writes a file, and the folders that it stands in."""
-    os.makedirs(os.path.dirname(path), exist_ok=True)
-    with open(path, "w", encoding="utf-8") as file:
-        file.write(text)
-
-
-def copy_crates(root):
-    """A repository of the three crates at `root`, without must-fail edits; its target/ stays, so that what is proved is not proved again."""
-    shutil.rmtree(f"{root}/crates", ignore_errors=True)
-    for crate in CRATES:
-        shutil.copytree(f"crates/{crate}", f"{root}/crates/{crate}", ignore=shutil.ignore_patterns("must-fail"))
-    lines = [line for line in read("crates.txt").split("\n") if line.split(":")[0] in CRATES]
-    write(f"{root}/crates.txt", "\n".join(lines) + "\n")
-
-
-def rt(root, *words):
-    """The exit status of rt in the repository at `root`, and what it prints."""
-    done = subprocess.run(["rt", *words], cwd=root, stdout=subprocess.PIPE, stderr=subprocess.STDOUT, encoding="utf-8", check=False)
-    return done.returncode, done.stdout
-
-
-def try_in_paper(edits):
-    """The edits of `paper` tried by rt: for each label what rt says of it and, where it says refused, the prover's log."""
-    if not edits:
-        return {}
-    copy_crates(SCRATCH)
-    shutil.rmtree(f"{SCRATCH}/target/must-fail", ignore_errors=True)
-    for edit in edits:
-        write(f"{SCRATCH}/crates/paper/must-fail/{os.path.basename(edit)}", read(edit))
-    _, printed = rt(SCRATCH, "must-fail", "paper")
-    told = dict(re.findall(r"must-fail paper/(\S+): (refused|NOT REFUSED|BAD EDIT)", printed))
-    results = {}
-    for edit in edits:
-        log = f"{SCRATCH}/target/must-fail/paper/{label_of(edit)}/.log"
-        word = told.get(label_of(edit), "not tried: paper itself is not proved")
-        results[label_of(edit)] = (word, read(log) if word == "refused" else "")
-    return results
-
-
-def try_below(edit):
-    """An edit of a crate below `paper`: that crate and `paper` proved with it."""
-    crate, texts, _ = edited(edit)
-    root = f"{SCRATCH}-below"
-    shutil.rmtree(root, ignore_errors=True)
-    copy_crates(root)
-    for file, text in texts.items():
-        write(f"{root}/crates/{crate}/{file}", text)
-    status, _ = rt(root, "check", "paper")
-    logs = [f"{root}/target/log/{name}.out" for name in (crate, "paper")]
-    refused = next((read(log) for log in logs if os.path.exists(log) and "\nlogic=not-proved" in read(log)), "")
-    return ("NOT REFUSED" if status == 0 else "refused" if refused else "BAD EDIT"), refused
-
-
-def judged(edit, word, log):
+def tried(edit, copies):
     """What became of an edit, the words for it, and whether its comment names a place that refuses it, a promise where there is one."""
-    places = [(file, need) for file, _, need in roots(log)]
-    if word == "NOT REFUSED":
+    crate, texts, misfit = edited(edit)
+    why = misfit or copies.begin(crate) or copies.begin("paper")
+    if why:
+        return "error", f"error: {why}", False
+    last, status, log = copies.check(crate, texts, () if crate == "paper" else ("paper",))
+    if status == 0:
         return "survived", "SURVIVED", False
-    if word != "refused" or not places:
-        return "error", f"error: {word}", False
-    own = [place for place in places if not place[0].startswith("proofs/")]
+    if status != 1 or not re.search(r"^logic=not-proved", log, re.M):
+        return "error", f"error: {last} was not judged (status {status}): {log[-300:]}", False
+    return judged(edit, last, log)
+
+
+def judged(edit, crate, log):
+    """The same of an edit that the prover refused in this crate, by the whole log."""
+    own = [place for place in refusals.errors(log) if not place.file.startswith("proofs/")]
     if own:
-        return "unfit", f"unfit: {' '.join(own[0])} is itself in error", False
-    by_promise = [place for place in places if PROMISE_FILES.search(place[0])]
-    kind, those, named = ("promise", by_promise, promised(edit)) if by_promise else ("law", places, promised(edit))
-    shown = named if named in those else those[0]
-    told = "" if named in those else f"; its comment says {' '.join(named) if named else 'nothing'}"
-    return kind, f"refused, first at {' '.join(places[0])}; {kind}: {' '.join(shown)}{told}", named in those
+        return "unfit", f"unfit: {own[0].file}:{own[0].line} is itself in error", False
+    places = refusals.roots(log, crate)
+    if not places:
+        return "error", "error: refused at no place of its own", False
+    named, folder = refusals.promised(edit), f"crates/{crate}"
+    by_promise = [place for place in places if place.file and PROMISE_FILES.search(place.file)]
+    kind, those = ("promise", by_promise) if by_promise else ("law", places)
+    well = bool(named) and any(refusals.is_named(place, named, folder) for place in those)
+    first, best = (refusals.shown(refusals.named_by(place, folder)) for place in (places[0], those[0]))
+    told = "" if well else f"; its comment says {refusals.shown(named) if named else 'nothing'}"
+    return kind, f"refused, first at {first}; {kind}: {refusals.shown(named) if well else best}{told}", well
 
 
 def main():
@@ -161,18 +93,18 @@ def main():
     if not shutil.which("rt"):
         print("wrong.py: the Rattle kit's `rt` is not on the path")
         return 2
-    edits = edits_named(sys.argv[1:])
-    misfits = {edit: why for edit, (_, _, why) in ((edit, edited(edit)) for edit in edits) if why}
-    results = try_in_paper([edit for edit in edits if edit not in misfits and replacements(edit)[0] == "paper"])
-    ends, right = [], []
-    for edit in edits:
-        if edit in misfits:
-            end, words, well = "error", f"error: {misfits[edit]}", False
-        else:
-            end, words, well = judged(edit, *(results.get(label_of(edit)) or try_below(edit)))
-        ends.append(end)
-        right.append(well)
-        print(f"{label_of(edit)}: {words}", flush=True)
+    edits, ends, right = edits_named(sys.argv[1:]), [], []
+    copies = refusals.Copies(CRATES)
+    try:
+        for crate in CRATES:
+            copies.begin(crate)
+        with concurrent.futures.ThreadPoolExecutor(refusals.jobs()) as pool:
+            for edit, (end, words, well) in zip(edits, pool.map(lambda edit: tried(edit, copies), edits)):
+                ends.append(end)
+                right.append(well)
+                print(f"{label_of(edit)}: {words}", flush=True)
+    finally:
+        copies.end()
     refused = ends.count("promise") + ends.count("law")
     print(f"{len(edits)} wrong definitions, {refused} refused, of them {ends.count('promise')} at a promise or closed example, {ends.count('survived')} survived")
     return 0 if edits and all(right) else 1
