@@ -13,11 +13,11 @@ c_flags=(-O2 -std=gnu11 -Wall -Wextra -Werror -Iinclude -Ibench "-I$out")
 renamed=(-Ddymosaw_request=baseline_request -Ddymosaw_correct=baseline_correct)
 
 build_bench() {
-    build_second && rt staticlib dymosaw &&
+    build_second && static_library dymosaw_c &&
         gcc -O2 -shared -fPIC -Wall -Wextra -Werror bench/count.c -o "$out/libcount.so" &&
         python3 bench/dictionary.py docs/DICTIONARY.md >"$out/dictionary.inc" &&
         "$x86_cc" "${c_flags[@]}" -c bench/baseline.c -o "$out/baseline.o" &&
-        "$x86_cc" "${c_flags[@]}" -static bench/driver.c target/staticlib/libdymosaw.a -o "$out/library" &&
+        "$x86_cc" "${c_flags[@]}" -static bench/driver.c crates/dymosaw_c/out/libdymosaw_c.a -o "$out/library" &&
         "$x86_cc" "${c_flags[@]}" -static "${renamed[@]}" bench/driver.c "$out/baseline.o" -o "$out/baseline" &&
         "$x86_cc" "${c_flags[@]}" -static "${renamed[@]}" tests/harness.c "$out/baseline.o" -o "$out/harness"
 }

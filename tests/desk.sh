@@ -11,7 +11,7 @@ mkdir -p "$here"
 # 01's worked example frame by frame: a line comes before the next frame goes.
 seen_at_once() {
     local frames=('0000000E 01 01 00000008 01 00 0000' '00000009 01 02 010203' '00000009 01 03 010203') lines=() frame line
-    coproc desk { "${x86_run[@]}" target/bin/desk; }
+    coproc desk { "${x86_run[@]}" "$desk_program"; }
     for frame in "${frames[@]}"; do
         python3 tests/unhex.py <(echo "$frame") >&"${desk[1]}"
         read -r -t 20 line <&"${desk[0]}" || return 1
@@ -22,7 +22,7 @@ seen_at_once() {
 
 same_lines() { # SEED
     build/second desks "$1" >"$here/input" || return 1
-    "${x86_run[@]}" target/bin/desk <"$here/input" >"$here/ours" || return 1
+    "${x86_run[@]}" "$desk_program" <"$here/input" >"$here/ours" || return 1
     build/second desk <"$here/input" >"$here/theirs" || return 1
     cmp "$here/ours" "$here/theirs" || return 1
     cat "$here/ours" >>"$here/lines"

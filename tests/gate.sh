@@ -9,12 +9,14 @@ mkdir -p build
 
 rt ci 2>&1 | tee build/ci.log
 passed=$(ci_count "${PIPESTATUS[0]}" build/ci.log) || {
-    echo "gate: rt ci did not pass"
+    echo "gate: rt ci did not pass, or has bad must-fail edits"
     exit 1
 }
 failed=0
 
+run_test check "each crate's own check, with whose work the C library and the second looks at must-fail edits begin" rt all check
 run_test must-fail "every must-fail edit is refused at the place its comment names" python3 tests/must_fail.py build/ci.log
+run_test must-fail-damaged "the must-fail test refuses edits that are refused elsewhere, or not at all" python3 tests/must_fail_test.py
 run_test gate "the gate passes only where rt ci says so itself" tests/gate_test.sh
 run_test dictionary "docs/DICTIONARY.md and the crate's rows agree" python3 tests/dictionary.py docs/DICTIONARY.md crates/dictionary
 run_test dictionary-damaged "the dictionary test refuses damaged copies" python3 tests/dictionary.py --self-test docs/DICTIONARY.md crates/dictionary
@@ -33,7 +35,7 @@ run_test second-desk "desk cases, by the second program" desk_cases build/second
 run_test tally "50,000 generated cases reach every row of the tally" tally 1 50000
 run_test reader "the proved reader and the second program agree on more than 20,000 messages" reader_compare 1 6000
 run_test origin-host "the public call and the second program give the same Origin-Host of each of these messages" origin_hosts
-run_test library "the C library and the harness compile without a warning" build_harness dymosaw tests/harness.c build/harness
+run_test library "the C library and the harness compile without a warning" build_harness dymosaw_c tests/harness.c build/harness
 run_test corrections "20,000 generated corrections through the C library and the second program" compare_cases build/second corrections 1 20000
 run_test library-named "named cases, by the C library" named_cases "${x86_run[@]}" build/harness
 run_test library-cases "50,000 generated cases through the C library and the second program" compare_cases build/second gen 1 50000
@@ -41,7 +43,7 @@ run_test runs "200 runs of 500 requests and corrections in a row" compare_cases 
 run_test widened-damaged "the test of widened requests refuses damaged pairs and results" python3 tests/widened_test.py
 run_test widened "20,000 widenings of accepted requests change nothing, by the C library" compare_widened widened 1 20000
 run_test widened-mandatory "5,000 widenings with a mandatory AVP are refused with 5001, by the C library" compare_widened widened-mandatory 1 5000
-run_test desk-cases "desk cases, by the desk program" desk_cases "${x86_run[@]}" target/bin/desk
+run_test desk-cases "desk cases, by the desk program" desk_cases "${x86_run[@]}" "$desk_program"
 run_test desk-runs "300 generated runs by the desk program and the second program; a pipe sees each line at once" tests/desk.sh 1 300
 run_test answers "every answer of 50,000 cases is read by the compiled message reader without a fault" answers_read 1 50000
 run_test reach "zero lengths, greatest sizes, odd addresses and the same call twice, from C" reach

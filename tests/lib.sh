@@ -1,10 +1,12 @@
 # What the gate's tests share. Sourced, from the repository's root.
 
-# Prints how many passed where `rt ci` ended with status 0 and its own closing line with no failure; else fails.
+# Prints how many passed where `rt ci` ended with status 0, its own line `rt: ok` with no bad must-fail edit, and its own closing line with no failure; else
+# fails. A bad edit (it cannot be applied, compiled or read) fails nothing in `rt ci` itself.
 ci_count() { # STATUS LOG
-    local last
+    local last ok
     last=$(tail -n 1 "$2")
-    [[ $1 -eq 0 && $last =~ ^([0-9]+)\ passed,\ 0\ failed$ ]] || return 1
+    ok=$(grep -E '^rt: ok;' "$2" | tail -n 1)
+    [[ $1 -eq 0 && -n $ok && ! $ok =~ [0-9]\ bad && $last =~ ^([0-9]+)\ passed,\ 0\ failed$ ]] || return 1
     echo "${BASH_REMATCH[1]}"
 }
 
@@ -29,9 +31,17 @@ else
     x86_cc=x86_64-linux-gnu-gcc x86_run=(qemu-x86_64 -L /usr/x86_64-linux-gnu)
 fi
 
-# Compiles a C program of the tests with a static library of crate CRATE.
+# The desk program, as `rt ci` and `rt run` leave it.
+desk_program=crates/desk/out/desk
+
+# Builds the static library of crate CRATE, which goes by what its files hold: crates/CRATE/out/libCRATE.a.
+static_library() { # CRATE
+    (cd "crates/$1" && rt lib)
+}
+
+# Compiles a C program of the tests with the static library of crate CRATE.
 build_harness() { # CRATE SOURCE PROGRAM
-    rt staticlib "$1" && "$x86_cc" -O2 -Wall -Wextra -Werror -static -Iinclude "$2" "target/staticlib/lib$1.a" -o "$3"
+    static_library "$1" && "$x86_cc" -O2 -Wall -Wextra -Werror -static -Iinclude "$2" "crates/$1/out/lib$1.a" -o "$3"
 }
 
 build_second() {

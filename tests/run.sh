@@ -22,10 +22,10 @@ sys.exit(waiting[0] <= 0)'
 }
 
 desk() {
-    "${x86_run[@]}" target/bin/desk
+    "${x86_run[@]}" "$desk_program"
 }
 
-rt check desk </dev/null >build/run.log 2>&1 || {
+(cd crates/desk && rt run </dev/null) >build/run.log 2>&1 || {
     cat build/run.log
     exit 1
 }
@@ -33,7 +33,7 @@ if frames_wait; then
     desk
     exit
 fi
-echo "The desk program and every crate below it are proved, and target/bin/desk is built (the log is in build/run.log)."
+echo "The desk program and every crate below it are proved, and $desk_program is built (the log is in build/run.log)."
 echo "A morning at the port, $morning.in; each line: frame number, letter, code, answer length, entries listed."
 echo
 python3 tests/unhex.py "$morning.in" | desk >build/morning.out
