@@ -169,7 +169,7 @@ class Copies:
         its status and the log."""
         copy = tempfile.mkdtemp(dir=self.room)
         try:
-            shutil.copytree(self.base, copy, dirs_exist_ok=True, copy_function=linked)
+            shutil.copytree(self.base, copy, ignore=needless(self.base, crate, above), dirs_exist_ok=True, copy_function=linked)
             for file, text in texts.items():
                 write(f"{copy}/crates/{crate}/{file}", text)
             for it in (crate, *above):
@@ -185,9 +185,21 @@ class Copies:
         shutil.rmtree(self.room, ignore_errors=True)
 
 
+def needless(base, crate, above):
+    """What a copy in which this crate is edited goes without: its library, and the kept work of crates that are not checked there."""
+
+    def ignored(folder, names):
+        if os.path.basename(folder) != "out":
+            return []
+        owner = folder.removeprefix(f"{base}/crates/").split("/")[0]
+        return [name for name in names if name == "rlib" and owner == crate or name == "incremental" and owner not in (crate, *above)]
+
+    return ignored
+
+
 def linked(one, other):
-    """Copies a file; what was proved, which a check replaces and never changes, by a link."""
-    if one.endswith(".oantt"):
+    """Copies a file; what was proved, and a library's files, which a check replaces and never changes, by a link."""
+    if one.endswith(".oantt") or "/out/rlib/" in one:
         try:
             os.link(one, other)
             return
