@@ -1,11 +1,12 @@
-"""must_fail.py [--tell | --write] LOG [NAME..]: holds the comment of every must-fail edit against the places at which the prover refuses it.
+"""must_fail.py [--tell | --write] [--first] LOG [NAME..]: holds the comment of every must-fail edit against the places at which the prover refuses it.
 
 Each crates/CRATE/must-fail/LABEL.edit has a line `# refused at: PLACE` (tests/refusals.py has its two forms): a place that states the fact which the edit
 breaks, and which the prover refuses by itself, and not behind another. LOG is what `rt ci` printed. It names the first place alone, and keeps no log of an
 edit; where a comment names another, the edited crate is checked once more, in a copy outside the checkout, and its whole log is read.
 
 --tell prints for each edit the line `# refused at: ..` of its first place, and whether its comment is right; --write puts that line into each edit whose comment
-is not. NAME is a crate or CRATE/LABEL, and stands for all where it is left out.
+is not. With --first nothing is checked once more, and a comment is right only where it names the first place. NAME is a crate or CRATE/LABEL, and stands for
+all where it is left out.
 """
 import concurrent.futures
 import glob
@@ -81,7 +82,7 @@ def elsewhere(edit, copies):
     return f"refused at {found or 'no place'}; its comment says {refusals.shown(named)}"
 
 
-def complaints(edits, told):
+def complaints(edits, told, only_first=False):
     """What is wrong with each edit, by its name; nothing of those that are right."""
     wrong, later = {}, {}
     for edit in edits:
@@ -89,9 +90,12 @@ def complaints(edits, told):
         if why or not named:
             wrong[edit] = why or "no comment '# refused at: PLACE'"
             continue
-        first = first_of(edit, told)
-        if not (first and refusals.is_named(first, named, f"crates/{edit.split('/')[1]}")):
-            later.setdefault(edit.split("/")[1], []).append(edit)
+        first, crate = first_of(edit, told), edit.split("/")[1]
+        if not (first and refusals.is_named(first, named, f"crates/{crate}")):
+            later.setdefault(crate, []).append(edit)
+    if only_first:
+        wrong.update({edit: f"its comment says {refusals.shown(refusals.promised(edit))}" for those in later.values() for edit in those})
+        return wrong
     for crate, those in later.items():
         copies = refusals.Copies(refusals.below(crate))
         try:
@@ -127,11 +131,12 @@ def rewrite(edit, told):
 
 
 def main(words):
-    mode = words.pop(0) if words[:1] in (["--tell"], ["--write"]) else None
+    mode, only_first = next((word for word in words if word in ("--tell", "--write")), None), "--first" in words
+    words = [word for word in words if not word.startswith("--")]
     if not words:
         sys.exit(__doc__)
     edits, told = edits_named(words[1:]), told_of(refusals.read(words[0]))
-    wrong = complaints(edits, told)
+    wrong = complaints(edits, told, only_first)
     if mode == "--write":
         left = [edit for edit in wrong if not rewrite(edit, told)]
         print("\n".join([f"{name_of(edit)}: {wrong[edit]}" for edit in left] + [f"{len(wrong) - len(left)} comments written, {len(left)} left as they are"]))
