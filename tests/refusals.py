@@ -216,7 +216,7 @@ def rt_check(root, crate):
 
 def below(crate):
     """A crate and those of crates.txt below it."""
-    listed = dict(re.findall(r"^(\w+)(?: staticlib)?:(.*)$", read("crates.txt"), re.M))
+    listed = dict(re.findall(r"^(\w+)[^:#\n]*:(.*)$", read("crates.txt"), re.M))
     found, left = [], [crate]
     while left:
         it = left.pop()
