@@ -2,7 +2,7 @@
 
 Every `pub fn` of crates/*/src has an `ensures`. The public calls are those of crate dymosaw and of crate dymosaw_c, which hands two of them to C, in the
 modules that their lib.rt make public: none of them has a `requires`, since C and any bytes come in there, and each has its row in docs/STATEMENTS.md, "Two
-outcomes allowed for one input".
+outcomes allowed for one input". A call of crate dymosaw_c says word for word what the call of its name in crate dymosaw says, of which the promises speak.
 With --self-test damaged copies must each be found out.
 """
 import re
@@ -24,15 +24,15 @@ def closing(text, at, pair):
 
 
 def clauses_of(text, at):
-    """The clauses of the function whose parameters open at `at`: (word, what it says) of each."""
+    """The clauses of the function whose parameters open at `at`: (word, what it says, its label) of each."""
     at = closing(text, at, "()")
     found = []
     while True:
-        word = re.compile(r"\b(requires|ensures)\b(?:\s+\w+)?\s*(?=\{)|\{").search(text, at)
+        word = re.compile(r"\b(requires|ensures)\b(?:\s+(\w+))?\s*(?=\{)|\{").search(text, at)
         if not word.group(1):
             return found
         at = closing(text, word.end(), "{}")
-        found.append((word.group(1), text[word.end() + 1 : at - 1].strip()))
+        found.append((word.group(1), text[word.end() + 1 : at - 1].strip(), word.group(2)))
 
 
 def public_functions(text):
@@ -56,14 +56,33 @@ def calls_of(texts):
                 yield path, name, clauses, is_public(path, texts)
 
 
+def words_of(text):
+    """The words that the file's clauses are given, each with its module."""
+    uses = re.findall(r"^ghost use ([\w.]+)\.\{([^}]*)\};", text, re.M)
+    return {f"{module}.{word.strip()}" for module, words in uses for word in words.split(",")}
+
+
+def handed_to_c(texts):
+    """What is wrong with the calls of crate dymosaw_c beside those of crate dymosaw that they hand on."""
+    home, thin = PUBLIC
+    said = {name: clauses for path, name, clauses, _ in calls_of(texts) if path.startswith(home)}
+    words = {word for path, text in texts.items() if path.startswith(home) for word in words_of(text)}
+    for path, name, clauses, _ in calls_of(texts):
+        if path.startswith(thin) and clauses != said.get(name):
+            yield f"{path}: {name} does not say what crate dymosaw's {name} says"
+    for path, text in texts.items():
+        if path.startswith(thin):
+            yield from (f"{path}: {word} is no word of crate dymosaw's clauses" for word in sorted(words_of(text) - words))
+
+
 def complaints(texts):
     rows = texts[PAGE].split(HEADING)[-1]
-    wrong = []
+    wrong = list(handed_to_c(texts))
     for path, name, clauses, public in calls_of(texts):
-        says = [what for word, what in clauses if word == "ensures"]
+        says = [what for word, what, _ in clauses if word == "ensures"]
         if not says or any("⊤" in what for what in says):
             wrong.append(f"{path}: {name} ensures nothing")
-        if public and any(word == "requires" for word, _ in clauses):
+        if public and any(word == "requires" for word, *_ in clauses):
             wrong.append(f"{path}: {name} is a public call and has a requires")
         if public and f"`{path.split('/')[1]}:{name}`" not in rows:
             wrong.append(f"{path}: {name} is a public call and has no row in {PAGE}, '{HEADING[3:]}'")
@@ -82,6 +101,9 @@ DAMAGES = [
     ("crates/dymosaw/src/correct.rt", "fn dymosaw_correct(", "fn dymosaw_mend(", "dymosaw_mend is a public call and has no row"),
     ("crates/dymosaw_c/src/lib.rt", "fn dymosaw_correct(", "fn dymosaw_mend(", "dymosaw_mend is a public call and has no row"),
     ("crates/dymosaw_c/src/lib.rt", "    ensures {", "    requires {", "lib.rt: dymosaw_correct ensures nothing"),
+    ("crates/dymosaw_c/src/lib.rt", "{ Bytes request.now }", "{ Bytes host.now }", "dymosaw_request does not say what crate dymosaw's dymosaw_request says"),
+    ("crates/dymosaw_c/src/lib.rt", "    ensures bytes {", "    ensures known {", "dymosaw_request does not say what crate dymosaw's dymosaw_request says"),
+    ("crates/dymosaw_c/src/lib.rt", "specs.Outcome.{outcome}", "specs.Desk.{outcome}", "Rattle.paper.specs.Desk.outcome is no word of crate dymosaw's clauses"),
     ("crates/dymosaw/src/serve.rt", "    ensures bytes {", "    requires bytes {", "serve.rt: serve is a public call and has a requires"),
     ("crates/wire/src/put.rt", "pub fn", "pub fn silent(x: u8) -> u8 {\n    x\n}\n\npub fn", "silent ensures nothing"),
     ("crates/avp/src/cursor.rt", "pub fn", "pub fn empty(x: [u8; 4]) -> u8\n    ensures { ⊤ }\n{\n    0\n}\n\npub fn", "empty ensures nothing"),

@@ -18,13 +18,13 @@ pub struct Avp {
     pub end: usize,
 }
 
-#[derive(Drop)]
+#[derive(Clone, Copy)]
 pub struct Cursor {
     pub at: usize,
 }
 
 // What stands at a cursor.
-#[derive(Drop)]
+#[derive(Clone, Copy)]
 pub enum Step {
     // An AVP that lies inside the stretch, and the cursor behind its padding.
     Item { avp: Avp, next: Cursor },

@@ -12,7 +12,7 @@ use dictionary::key_of;
 use paper::layout::MESSAGE_HEADER;
 use paper::profile::ORIGIN_HOST;
 
-#[derive(Drop)]
+#[derive(Clone, Copy)]
 pub enum Found {
     At(Avp),
     Nothing,
@@ -83,7 +83,7 @@ pub fn first_second(s: &[u8], keys: &[u64]) -> Found
 }
 
 // Where the first AVP of each of some keys stands, by the index of the key; the stretch's length where no AVP has it.
-#[derive(Drop)]
+#[derive(Clone, Copy)]
 pub struct Firsts {
     // A key was met twice.
     pub again: bool,

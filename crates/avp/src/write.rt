@@ -15,7 +15,7 @@ use wire::put::{put_bytes, put_zeros};
 const MOST_DATA: usize = 16777199;
 
 // What became of an AVP that was to be written.
-#[derive(Drop)]
+#[derive(Clone, Copy)]
 pub enum Written {
     // It stands in the buffer and ends, with its padding, before this place.
     UpTo(usize),

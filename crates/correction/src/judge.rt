@@ -10,7 +10,7 @@ use crate::frame::{
 use table::lookup::Found;
 
 // What a correction is answered; specs/Answer.antt gives each its number.
-#[derive(Drop)]
+#[derive(Clone, Copy)]
 pub enum Answer {
     Stored,
     TableNotValid,
@@ -41,7 +41,7 @@ pub fn number(answer: Answer) -> u32
 }
 
 // Refused with an answer, or accepted for a record.
-#[derive(Drop)]
+#[derive(Clone, Copy)]
 pub enum Judged {
     Refused(Answer),
     Accepted(usize),

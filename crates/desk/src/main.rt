@@ -9,7 +9,7 @@ use dymosaw::desk::{Desk, LENGTH_SIZE, LINE_ROOM, MOST_FRAME, TABLE_ROOM};
 use std::io::{Read, Stdin, Stdout, Write};
 
 // Where the run stands after a frame, and whether it goes on.
-#[derive(Drop)]
+#[derive(Clone, Copy)]
 struct After {
     desk: Desk,
     goes_on: bool,

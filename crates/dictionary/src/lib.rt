@@ -11,7 +11,7 @@ use rows::{KEYS, KINDS};
 mod rows;
 
 // What an AVP's type asks of its data, and whether the reader goes inside.
-#[derive(Drop)]
+#[derive(Clone, Copy)]
 pub enum Kind {
     // 4 bytes: Unsigned32, Integer32, Enumerated, Time
     Four,

@@ -48,7 +48,7 @@ pub struct Desk {
 }
 
 // What a frame came to: what its line says, how many bytes of the buffer are the table after it, and whether the run goes on.
-#[derive(Drop)]
+#[derive(Clone, Copy)]
 pub struct Turned {
     pub line: Line,
     pub used: usize,
@@ -56,7 +56,7 @@ pub struct Turned {
 }
 
 // What the step hands back: where the run stands after the frame, how long the line is, and whether the run goes on.
-#[derive(Drop)]
+#[derive(Clone, Copy)]
 pub struct Stepped {
     pub desk: Desk,
     pub line: usize,

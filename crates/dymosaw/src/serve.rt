@@ -41,7 +41,7 @@ use table::record::{downlink, restriction, uplink};
 use table::valid::valid_table;
 
 // What a request comes to: refused without an answer, by 01's number, or answered. `listed` counts the nodes to cancel.
-#[derive(Drop)]
+#[derive(Clone, Copy)]
 pub enum Served {
     Refused {
         number: u32,

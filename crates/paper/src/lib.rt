@@ -41,7 +41,7 @@ pub enum Failed {
 }
 
 // The AVPs that a success has beside those of every answer.
-#[derive(Drop)]
+#[derive(Clone, Copy)]
 pub enum Extra {
     Nothing,
     // ULA-Flags, and Subscription-Data of these numbers unless skipped.
@@ -69,7 +69,7 @@ pub struct Asked {
 }
 
 // What a line of the desk says of a frame behind its number: letter, code (an Experimental one or not), answer length, entries listed.
-#[derive(Drop)]
+#[derive(Clone, Copy)]
 pub struct Line {
     pub letter: u8,
     pub experimental: bool,

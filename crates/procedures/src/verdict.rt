@@ -13,7 +13,7 @@ use crate::nodes::{is_sender, mme_slot, sgsn_slot};
 use paper::profile::{NOR, ULR};
 use paper::{Asked, ExperimentalCode};
 
-#[derive(Drop)]
+#[derive(Clone, Copy)]
 pub enum Ruling {
     Fine,
     Experimental(ExperimentalCode),

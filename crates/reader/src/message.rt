@@ -7,7 +7,7 @@ use crate::visit::visit;
 use dictionary::{all_keys, all_kinds};
 use paper::Visit;
 
-#[derive(Drop)]
+#[derive(Clone, Copy)]
 pub struct Message {
     pub header: Header,
     pub visit: Visit,

@@ -15,7 +15,7 @@ use crate::profile::{RAT_TYPE, USER_NAME, VISITED_PLMN_ID, command_of, flags_key
 use paper::Asked;
 use reader::header::read_header;
 
-#[derive(Drop)]
+#[derive(Clone, Copy)]
 pub struct Accepted {
     pub asked: Asked,
     pub user_name: Span,

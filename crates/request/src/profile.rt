@@ -47,7 +47,7 @@ pub enum Command {
 }
 
 // The keys of a command: the first `required` of `all` are required, in the order of 5005; the first `used` are used, and 5009 goes by these.
-#[derive(Drop)]
+#[derive(Clone, Copy)]
 pub struct Keys {
     pub required: usize,
     pub used: usize,

@@ -13,7 +13,7 @@ use paper::layout;
 #[derive(Clone, Copy)]
 pub struct Key(pub u64, pub u64);
 
-#[derive(Drop)]
+#[derive(Clone, Copy)]
 pub enum Found {
     At(usize),
     Nothing,
