@@ -20,8 +20,8 @@ use Rattle.avp.specs.Step.{avp_at}
 use Rattle.avp.specs.Found.{data_of}
 use Rattle.avp.specs.declared.cursor.Avp.{Avp as Read}
 use Rattle.avp.proofs.StepLaws.{data_at}
-use Rattle.avp.specs.declared.write.Written.TheVariants.{UpTo, NoRoom}
-use Rattle.avp.specs.Written.{group_head, received, came_to, has_room, avp_written}
+use Rattle.std.specs.Prelude.{Ok}
+use Rattle.avp.specs.Written.{group_head, received, not_written, came_to, has_room, avp_written}
 
 -- ---- headers
 
@@ -114,15 +114,15 @@ unfolding written
 size-written vendor code mandatory body = length_as_received (record { code = code; flags = flags_for vendor mandatory; vendor = vendor; body = body })
 
 module _ (out : List ℕ) (at vendor code : ℕ) (mandatory : Bool) (body : List ℕ) where
-  refused : has_room out at vendor code mandatory body ≡ false → came_to NoRoom out ≡ avp_written out at vendor code mandatory body
+  refused : has_room out at vendor code mandatory body ≡ false → came_to not_written out ≡ avp_written out at vendor code mandatory body
   unfolding avp_written
   refused e = rw e
 
-  pub too_long : 16777199 < length body → came_to NoRoom out ≡ avp_written out at vendor code mandatory body
+  pub too_long : 16777199 < length body → came_to not_written out ≡ avp_written out at vendor code mandatory body
   unfolding has_room
   too_long h = refused (and-false-left (ltb (length body) 16777200) (leb (at + length (written vendor code mandatory body)) (length out)) (le-ltb (length body) 16777200 (omega arith)))
 
-  pub no_room : length out < at + padded (head_size (flags_for vendor mandatory) + length body) → came_to NoRoom out ≡ avp_written out at vendor code mandatory body
+  pub no_room : length out < at + padded (head_size (flags_for vendor mandatory) + length body) → came_to not_written out ≡ avp_written out at vendor code mandatory body
   unfolding has_room
   no_room h = refused (and-false-right (ltb (length body) 16777200) (leb (at + length (written vendor code mandatory body)) (length out)) (lt-leb (at + length (written vendor code mandatory body)) (length out) (rw (size-written vendor code mandatory body) h)))
 
@@ -130,6 +130,6 @@ module _ (out : List ℕ) (at vendor code : ℕ) (mandatory : Bool) (body : List
   room h = rw (size-written vendor code mandatory body) h
 
   pub wrote-avp : {r : ℕ} {out' : List ℕ} → length body < 16777200 → at + padded (head_size (flags_for vendor mandatory) + length body) ≤ length out
-      → Wrote out at (written vendor code mandatory body) out' r → came_to (UpTo r) out' ≡ avp_written out at vendor code mandatory body
+      → Wrote out at (written vendor code mandatory body) out' r → came_to (Ok r) out' ≡ avp_written out at vendor code mandatory body
   unfolding avp_written has_room
   wrote-avp h k w = rw (w.next, w.made, lt-ltb _ _ h, le-leb _ _ (room k))

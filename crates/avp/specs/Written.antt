@@ -1,11 +1,10 @@
 -- The bytes that the writers put, in the paper's words, and what becomes of an AVP that is to be written at any place of any buffer.
 -- Assumes nothing.
-use Rattle.std.specs.Prelude.{Bool, true, cond, ◌&&◌, List, ℕ, ◌+◌, length, ltb, leb}
+use Rattle.std.specs.Prelude.{Bool, true, cond, ◌&&◌, List, ℕ, ◌+◌, length, ltb, leb, Result, Ok, Err}
 use Rattle.wire.specs.Put.{put}
 use Rattle.paper.specs.Avp.{as_received, flags_for, written}
 use Rattle.paper.proofs.WrittenLaws.{head_bytes}
-use Rattle.avp.specs.declared.write.Written.{Written}
-use Rattle.avp.specs.declared.write.Written.TheVariants.{UpTo, NoRoom}
+use Rattle.avp.specs.declared.write.NoRoom.{NoRoom}
 
 -- the header of a group with M that holds `n` bytes
 abbrev pub group_head : ℕ → ℕ → ℕ → List ℕ
@@ -17,12 +16,16 @@ received code flags vendor body = as_received (record { code = code; flags = fla
 
 -- ---- at any place of any buffer
 
+-- the answer where nothing is written
+abbrev pub not_written : Result ℕ NoRoom
+not_written = Err (record {})
+
 -- what was answered, and every byte of the buffer after it
 pub record Came : Type 0 where
-  pub answer : Written
+  pub answer : Result ℕ NoRoom
   pub out : List ℕ
 
-abbrev pub came_to : Written → List ℕ → Came
+abbrev pub came_to : Result ℕ NoRoom → List ℕ → Came
 came_to r out = record { answer = r; out = out }
 
 -- There is room for the AVP: its data has fewer than 16,777,200 bytes, so that its length has 24 bits, and it ends inside the buffer, with its padding.
@@ -33,4 +36,4 @@ has_room out at vendor code mandatory body = ltb (length body) 16777200 && leb (
 unfoldable pub avp_written : (out : List ℕ) (at vendor code : ℕ) (mandatory : Bool) (body : List ℕ) → Came
 avp_written out at vendor code mandatory body =
     cond (has_room out at vendor code mandatory body)
-    (came_to (UpTo (at + length (written vendor code mandatory body))) (put at (written vendor code mandatory body) out)) (came_to NoRoom out)
+    (came_to (Ok (at + length (written vendor code mandatory body))) (put at (written vendor code mandatory body) out)) (came_to not_written out)

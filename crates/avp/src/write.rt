@@ -14,14 +14,9 @@ use wire::put::{put_bytes, put_zeros};
 // The most data of an AVP that is written: with a header of 12 bytes its length has 24 bits.
 const MOST_DATA: usize = 16777199;
 
-// What became of an AVP that was to be written.
-#[derive(Clone, Copy)]
-pub enum Written {
-    // It stands in the buffer and ends, with its padding, before this place.
-    UpTo(usize),
-    // It has more than the most data, or does not end inside the buffer: nothing is written.
-    NoRoom,
-}
+// Why an AVP is not written: it has more than the most data, or does not end inside the buffer.
+#[derive(Clone, Copy, Debug, PartialEq, Eq)]
+pub struct NoRoom;
 
 // V, 128, exactly if there is a vendor; M is 64.
 fn flags_for(vendor: u32, mandatory: bool) -> u8
@@ -100,7 +95,8 @@ fn written_size(vendor: u32, mandatory: bool, n: usize) -> usize
     with_padding(head_size(flags_for(vendor, mandatory)) + n)
 }
 
-// An AVP by its key, M and data, at any place of any buffer: written where there is room for all of it.
+// An AVP by its key, M and data, at any place of any buffer: written where there is room for all of it, and else nothing is.
+// Answers the place behind its padding.
 pub fn write_avp(
     out: &mut [u8],
     at: usize,
@@ -108,21 +104,21 @@ pub fn write_avp(
     code: u32,
     mandatory: bool,
     body: &[u8],
-) -> Written
+) -> Result<usize, NoRoom>
     ensures { came_to result out.new ≡ avp_written out.old at vendor code mandatory body.now }
 {
     let n = body.len();
     if MOST_DATA < n {
-        return Written::NoRoom;
+        return Err(NoRoom);
     }
     let size = written_size(vendor, mandatory, n);
     if out.len() < at {
-        return Written::NoRoom;
+        return Err(NoRoom);
     }
     if out.len() - at < size {
-        return Written::NoRoom;
+        return Err(NoRoom);
     }
-    Written::UpTo(put_avp(out, at, vendor, code, mandatory, body))
+    Ok(put_avp(out, at, vendor, code, mandatory, body))
 }
 
 // The header of a group with M whose `n` bytes of data, fours, stand behind it or will.
