@@ -27,6 +27,13 @@ pub enum Kind {
     Unknown,
 }
 
+// "An AVP's key is (vendor, code)".
+#[derive(Clone, Copy, Debug, PartialEq, Eq)]
+pub struct Key {
+    pub vendor: u32,
+    pub code: u32,
+}
+
 // Vendor and code as one number, so that one comparison orders keys.
 pub fn key_of(vendor: u32, code: u32) -> u64
     ensures value { result ≡ key_of vendor code }
