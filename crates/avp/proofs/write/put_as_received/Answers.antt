@@ -16,7 +16,7 @@ put_head-a-requires c =
 pub put_bytes-b-requires : goal.put_bytes-b-requires
 put_bytes-b-requires c =
     let p = padded-least (length c.args.body.now) in
-    omega (arith, (rw length-received at c.requires.1), (length_head c.args.code c.args.flags c.args.vendor (length c.args.body.now)))
+    omega (arith, (rw length-received at c.requires.1), (length_head c.args.key.code c.args.flags c.args.key.vendor (length c.args.body.now)))
 
 pub overflow_sub-with_padding : goal.overflow_sub-with_padding
 overflow_sub-with_padding c = let p = padded-least (length c.args.body.now) in omega arith
@@ -24,15 +24,15 @@ overflow_sub-with_padding c = let p = padded-least (length c.args.body.now) in o
 pub put_zeros-requires : goal.put_zeros-requires
 put_zeros-requires c =
     let p = padded-least (length c.args.body.now) in
-    omega (arith, (rw length-received at c.requires.1), (length_head c.args.code c.args.flags c.args.vendor (length c.args.body.now)))
+    omega (arith, (rw length-received at c.requires.1), (length_head c.args.key.code c.args.flags c.args.key.vendor (length c.args.body.now)))
 
 pub returns : goal.returns
 returns c =
     let a = c.args in
     let p = padded-least (length a.body.now) in
     let r = (rw length-received at c.requires.1) in
-    let l = (length_head c.args.code c.args.flags c.args.vendor (length c.args.body.now)) in
+    let l = (length_head c.args.key.code c.args.flags c.args.key.vendor (length c.args.body.now)) in
     let e = ap (λ (k : ℕ). replicate {A = ℕ} (k - length a.body.now) 0) c.with_padding.ensures in
-    wrote-same (sym (received_parts a.code a.flags a.vendor a.body.now))
+    wrote-same (sym (received_parts a.key.code a.flags a.key.vendor a.body.now))
     (wrote_then (omega arith) c.put_head-a.ensures
     (wrote_then (omega arith) c.put_bytes-b.ensures (wrote-same e c.put_zeros.ensures)))

@@ -5,9 +5,9 @@ use Rattle.avp.proofs.write.put_group_head.Goals as goal
 
 pub put_head-requires : goal.put_head-requires
 put_head-requires c =
-    (c.requires.0, rw (head_for c.args.vendor c.args.code c.args.n c.flags_for.ensures) c.requires.1)
+    (c.requires.0, rw (head_for c.args.key.vendor c.args.key.code c.args.n c.flags_for.ensures) c.requires.1)
 
 pub returns : goal.returns
 returns c =
     let a = c.args in
-    wrote-same (head_for a.vendor a.code a.n c.flags_for.ensures) c.put_head.ensures
+    wrote-same (head_for a.key.vendor a.key.code a.n c.flags_for.ensures) c.put_head.ensures

@@ -27,7 +27,7 @@ put_u32-b-requires c = let l = head_size-least c.args.flags in omega (arith, (rw
 
 pub put_vendor-requires : goal.put_vendor-requires
 put_vendor-requires c =
-    let f = length_field c.args.flags c.args.vendor in
+    let f = length_field c.args.flags c.args.key.vendor in
     omega (arith, (rw length_head at c.requires.1))
 
 pub returns : goal.returns
