@@ -13,7 +13,7 @@ use crate::failed::put_failed;
 use crate::parts::{put_extra, put_own, put_result};
 use paper::layout::MESSAGE_HEADER;
 use paper::{Extra, Failed, Verdict};
-use wire::number::{put_u8, put_u32};
+use wire::number::put;
 use wire::put::put_bytes;
 
 // Session-Id, where the answer echoes.
@@ -97,8 +97,8 @@ fn put_header(out: &mut [u8], m: &[u8], flags: u8, n: usize) -> usize
     requires { (message_header ≤ length out.old) × (least_request ≤ length m.now) × (n < 16777216) }
     ensures { Wrote out.old 0 (header_bytes n flags m.now) out.new result }
 {
-    let a = put_u32(out, 0, 16777216 + n as u32);
-    let b = put_u8(out, a, flags);
+    let a = put(out, 0, 16777216 + n as u32);
+    let b = put(out, a, flags);
     put_bytes(out, b, &m[5..MESSAGE_HEADER])
 }
 

@@ -5,7 +5,7 @@ ghost use Rattle.wire.specs.Number.{num_at};
 ghost use Rattle.paper.specs.Avp.{has_v, has_m, head_size, padded};
 ghost use Rattle.avp.specs.Step.{step_at};
 
-use wire::number::{get_u24, get_u32};
+use wire::number::{U24, get};
 
 // An AVP of a stretch: its place there, the numbers of its header, and where its data starts and ends.
 #[derive(Clone, Copy)]
@@ -67,7 +67,11 @@ fn vendor_at(s: &[u8], at: usize, flags: u8) -> u32
     requires { at + head_size flags ≤ length s.now }
     ensures { result ≡ cond (has_v flags) (num_at 4 s.now (at + 8)) 0 }
 {
-    if has_v(flags) { get_u32(s, at + 8) } else { 0 }
+    if has_v(flags) {
+        get::<u32>(s, at + 8)
+    } else {
+        0
+    }
 }
 
 impl Cursor {
@@ -92,7 +96,7 @@ impl Cursor {
         }
         let flags = s[at + 4];
         let head = head_size(flags);
-        let len = get_u24(s, at + 5) as usize;
+        let len = get::<U24>(s, at + 5).0 as usize;
         if len < head {
             return Step::Bad { at };
         }
@@ -100,7 +104,7 @@ impl Cursor {
         if left < size {
             return Step::Bad { at };
         }
-        let code = get_u32(s, at);
+        let code = get::<u32>(s, at);
         let vendor = vendor_at(s, at, flags);
         Step::Item {
             avp: Avp {

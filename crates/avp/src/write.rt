@@ -9,7 +9,7 @@ ghost use Rattle.avp.specs.Written.{group_head, received, came_to, avp_written};
 
 use crate::cursor::{has_v, head_size, with_padding};
 use dictionary::Key;
-use wire::number::put_u32;
+use wire::number::put;
 use wire::put::{put_bytes, put_zeros};
 
 // The most data of an AVP that is written: with a header of 12 bytes its length has 24 bits.
@@ -35,7 +35,7 @@ fn put_vendor(out: &mut [u8], at: usize, flags: u8, vendor: u32) -> usize
     ensures { Wrote out.old at (vendor_field flags vendor) out.new result }
 {
     if has_v(flags) {
-        put_u32(out, at, vendor)
+        put(out, at, vendor)
     } else {
         at
     }
@@ -46,8 +46,8 @@ fn put_head(out: &mut [u8], at: usize, key: Key, flags: u8, n: usize) -> usize
     requires { (n < 16777200) × (at + length (head_bytes key.code flags key.vendor n) ≤ length out.old) }
     ensures { Wrote out.old at (head_bytes key.code flags key.vendor n) out.new result }
 {
-    let a = put_u32(out, at, key.code);
-    let b = put_u32(
+    let a = put(out, at, key.code);
+    let b = put(
         out,
         a,
         (flags as u32) * 16777216 + (head_size(flags) + n) as u32,
@@ -121,5 +121,5 @@ pub fn put_number(out: &mut [u8], at: usize, key: Key, v: u32) -> usize
     ensures { Wrote out.old at (written key.vendor key.code true (be 4 v)) out.new result }
 {
     let a = put_group_head(out, at, key, 4);
-    put_u32(out, a, v)
+    put(out, a, v)
 }

@@ -56,7 +56,7 @@ pub fn judge_record(table: &[u8], frame: &[u8]) -> Judged
         return Judged::Refused(Answer::NoSuchImsi);
     };
     let change = table::record::change_number(table, i);
-    let seen = wire::number::get_u32(frame, SEEN_AT);
+    let seen = wire::number::get::<u32>(frame, SEEN_AT);
     if change != seen {
         return Judged::Refused(Answer::ChangeDiffers);
     }
@@ -73,7 +73,7 @@ pub fn judge(table: &[u8], frame: &[u8]) -> Judged
     if frame.len() < FRAME_HEAD {
         return Judged::Refused(Answer::LengthWrong);
     }
-    if wire::number::get_u16(frame, 0) as usize != frame.len() {
+    if wire::number::get::<u16>(frame, 0) as usize != frame.len() {
         return Judged::Refused(Answer::LengthWrong);
     }
     if frame[VERSION_AT] != FRAME_VERSION {

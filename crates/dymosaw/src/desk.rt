@@ -12,7 +12,7 @@ use crate::serve::{Served, serve};
 use paper::layout::{CANCEL_SIZE, LEAST_ANSWER, MOST_RECORDS, RECORD_SIZE, TABLE_HEADER};
 use paper::{Line, Verdict};
 use table::valid::valid_table;
-use wire::number::get_u32;
+use wire::number::get;
 use wire::put::put_bytes;
 
 // The largest table.
@@ -183,7 +183,7 @@ fn frame_right(frame: &[u8]) -> bool
     if frame.len() < DESK_HEAD {
         return false;
     }
-    let whole = get_u32(frame, 0) as usize;
+    let whole = get::<u32>(frame, 0) as usize;
     size_right(whole) & ((frame.len() == whole) & (frame[VERSION_AT] == DESK_VERSION))
 }
 
@@ -242,7 +242,7 @@ pub fn rest_size(length: &[u8]) -> usize
     if length.len() < LENGTH_SIZE {
         return 0;
     }
-    let whole = get_u32(length, 0) as usize;
+    let whole = get::<u32>(length, 0) as usize;
     if size_right(whole) {
         whole - LENGTH_SIZE
     } else {

@@ -4,7 +4,7 @@ ghost use Rattle.wire.specs.Number.{num_at};
 ghost use Rattle.reader.specs.Header.{header_of};
 
 use paper::layout::MESSAGE_HEADER;
-use wire::number::{byte_or_zero, get_cut, get_u24, get_u32};
+use wire::number::{U24, byte_or_zero, get, get_cut};
 
 #[derive(Clone, Copy)]
 pub struct Header {
@@ -51,11 +51,11 @@ pub fn read_header(m: &[u8]) -> Header
     }
     Header {
         version: m[0],
-        length: get_u24(m, 1),
+        length: get::<U24>(m, 1).0,
         flags: m[4],
-        command: get_u24(m, 5),
-        application: get_u32(m, 8),
-        hop_by_hop: get_u32(m, 12),
-        end_to_end: get_u32(m, 16),
+        command: get::<U24>(m, 5).0,
+        application: get::<u32>(m, 8),
+        hop_by_hop: get::<u32>(m, 12),
+        end_to_end: get::<u32>(m, 16),
     }
 }

@@ -24,8 +24,8 @@ pub fn key_at(s: &[u8], at: usize) -> Key
     requires { at + imsi_size ≤ length s.now }
     ensures { key_num result ≡ num (part at imsi_size s.now) }
 {
-    let hi = wire::number::get_u64(s, at);
-    let lo = wire::number::get_u64(s, at + 8);
+    let hi = wire::number::get::<u64>(s, at);
+    let lo = wire::number::get::<u64>(s, at + 8);
     Key(hi, lo)
 }
 
@@ -40,7 +40,7 @@ pub fn count_of(t: &[u8]) -> usize
     requires { table_header ≤ length t.now }
     ensures { result ≡ count_of t.now }
 {
-    wire::number::get_u16(t, 6) as usize
+    wire::number::get::<u16>(t, 6) as usize
 }
 
 // The record of a valid table that has the IMSI, 16 bytes as stored.

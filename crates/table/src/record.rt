@@ -34,7 +34,7 @@ pub fn word_of(t: &[u8], i: usize, at: usize) -> u32
     ensures { result ≡ num_at 4 (record_of t.now i) at }
 {
     let start = record_at(i);
-    wire::number::get_u32(t, start + at)
+    wire::number::get::<u32>(t, start + at)
 }
 
 // `n` bytes at `at` of record `i`, as that stretch of the table itself.
@@ -139,7 +139,7 @@ pub fn store_change(t: &mut [u8], i: usize, v: u32)
     ensures { t.new ≡ store i change_at (be 4 v) t.old }
 {
     let start = record_at(i);
-    wire::number::put_u32(t, start + layout::CHANGE_AT, v);
+    wire::number::put(t, start + layout::CHANGE_AT, v);
 }
 
 fn store_byte(t: &mut [u8], i: usize, at: usize, b: u8)
@@ -157,7 +157,7 @@ fn store_counted(t: &mut [u8], i: usize, at: usize, most: usize, xs: &[u8])
 {
     let from = record_at(i) + at;
     let n = xs.len();
-    let first = wire::number::put_u8(t, from, n as u8);
+    let first = wire::number::put(t, from, n as u8);
     let behind = wire::put::put_bytes(t, first, xs);
     wire::put::put_zeros(t, behind, most - n);
 }

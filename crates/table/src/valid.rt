@@ -158,7 +158,7 @@ fn right_header(t: &[u8]) -> bool
     if layout::MOST_RECORDS < n {
         return false;
     }
-    let said = wire::number::get_u32(t, 0) as usize;
+    let said = wire::number::get::<u32>(t, 0) as usize;
     (said == t.len())
         & (t[4] == layout::TABLE_VERSION)
         & (t[5] == 0)

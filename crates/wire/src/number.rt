@@ -1,6 +1,7 @@
 // Big-endian numbers: read and written by one loop each over the width, and the widths of Diameter by name.
 // `get_cut` reads past the end as zeros, which is what a cut header asks for.
-ghost use Rattle.std.specs.Prelude.{◌≡◌, ◌+◌, ◌^◌, ◌≤◌, ◌<◌, length, get_or};
+ghost use Rattle.std.specs.Prelude.{ℕ, ◌≡◌, ◌+◌, ◌^◌, ◌≤◌, ◌<◌, length, get_or};
+ghost use Rattle.std.proofs.Common.{rules};
 ghost use Rattle.wire.specs.Number.{be, num_at};
 ghost use Rattle.wire.specs.Put.{Wrote};
 
@@ -126,4 +127,135 @@ pub fn put_u64(out: &mut [u8], at: usize, v: u64) -> usize
     ensures { Wrote out.old at (be 8 v) out.new result }
 {
     put_be(out, at, 8, v)
+}
+
+// A number that stands in a fixed count of bytes.
+pub trait Number {
+    ghost WIDTH: { ℕ };
+
+    // What the bytes of a value say.
+    ghost value: { Self → ℕ };
+
+    const WIDTH: usize;
+
+    fn narrowed(v: u64) -> Self
+        requires { v < 256 ^ WIDTH }
+        ensures { value result ≡ v };
+
+    fn widened(self) -> u64
+        ensures { result ≡ value self };
+
+    // One loop reads and writes every width, over a `u64`.
+    ghost narrow: { WIDTH ≤ 8 };
+}
+
+impl Number for u8 {
+    ghost WIDTH = { 1 };
+
+    ghost value = { λ x. x };
+
+    ghost narrow = { Prim.search rules };
+
+    const WIDTH: usize = 1;
+
+    fn narrowed(v: u64) -> u8 {
+        v as u8
+    }
+
+    fn widened(self) -> u64 {
+        self as u64
+    }
+}
+
+impl Number for u16 {
+    ghost WIDTH = { 2 };
+
+    ghost value = { λ x. x };
+
+    ghost narrow = { Prim.search rules };
+
+    const WIDTH: usize = 2;
+
+    fn narrowed(v: u64) -> u16 {
+        v as u16
+    }
+
+    fn widened(self) -> u64 {
+        self as u64
+    }
+}
+
+// A number of three bytes, as lengths and command codes are.
+#[derive(Clone, Copy, Debug, PartialEq, Eq)]
+pub struct U24(pub u32);
+
+impl Number for U24 {
+    ghost WIDTH = { 3 };
+
+    ghost value = { λ x. x.0 };
+
+    ghost narrow = { Prim.search rules };
+
+    const WIDTH: usize = 3;
+
+    fn narrowed(v: u64) -> U24 {
+        U24(v as u32)
+    }
+
+    fn widened(self) -> u64 {
+        self.0 as u64
+    }
+}
+
+impl Number for u32 {
+    ghost WIDTH = { 4 };
+
+    ghost value = { λ x. x };
+
+    ghost narrow = { Prim.search rules };
+
+    const WIDTH: usize = 4;
+
+    fn narrowed(v: u64) -> u32 {
+        v as u32
+    }
+
+    fn widened(self) -> u64 {
+        self as u64
+    }
+}
+
+impl Number for u64 {
+    ghost WIDTH = { 8 };
+
+    ghost value = { λ x. x };
+
+    ghost narrow = { Prim.search rules };
+
+    const WIDTH: usize = 8;
+
+    fn narrowed(v: u64) -> u64 {
+        v
+    }
+
+    fn widened(self) -> u64 {
+        self
+    }
+}
+
+// The number that stands at `at`, as wide as its type.
+pub fn get<N: Number>(s: &[u8], at: usize) -> N
+    requires { at + N.WIDTH ≤ length s.now }
+    ensures value { N.value result ≡ num_at N.WIDTH s.now at }
+    ensures upper_bound { N.value result < 256 ^ N.WIDTH }
+{
+    N::narrowed(get_be(s, at, N::WIDTH))
+}
+
+// The bytes of `v` at `at`, as many as its type is wide.
+pub fn put<N: Number>(out: &mut [u8], at: usize, v: N) -> usize
+    requires { at + N.WIDTH ≤ length out.old }
+    ensures { Wrote out.old at (be N.WIDTH (N.value v)) out.new result }
+{
+    put_be(out, at, N::WIDTH, v.widened())
 }

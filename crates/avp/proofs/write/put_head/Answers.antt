@@ -10,8 +10,8 @@ use Rattle.paper.proofs.WrittenLaws.{head_bytes, length_head}
 use Rattle.avp.proofs.WriteLaws.{flags-and-length, length_field}
 use Rattle.avp.proofs.write.put_head.Goals as goal
 
-pub put_u32-a-requires : goal.put_u32-a-requires
-put_u32-a-requires c = let l = head_size-least c.args.flags in omega (arith, (rw length_head at c.requires.1))
+pub put-a-requires : goal.put-a-requires
+put-a-requires c = let l = head_size-least c.args.flags in omega (arith, (rw length_head at c.requires.1))
 
 pub overflow_add-head_size : goal.overflow_add-head_size
 overflow_add-head_size c = let m = head_size-most c.args.flags in omega arith
@@ -22,8 +22,8 @@ overflow_cast-head_size c = let m = head_size-most c.args.flags in omega arith
 pub overflow_add-flags : goal.overflow_add-flags
 overflow_add-flags c = let m = head_size-most c.args.flags in omega arith
 
-pub put_u32-b-requires : goal.put_u32-b-requires
-put_u32-b-requires c = let l = head_size-least c.args.flags in omega (arith, (rw length_head at c.requires.1))
+pub put-b-requires : goal.put-b-requires
+put-b-requires c = let l = head_size-least c.args.flags in omega (arith, (rw length_head at c.requires.1))
 
 pub put_vendor-requires : goal.put_vendor-requires
 put_vendor-requires c =
@@ -37,5 +37,5 @@ returns c =
     let m = head_size-most a.flags in
     let r = (rw length_head at c.requires.1) in
     let e = ap (λ (k : ℕ). be 4 (a.flags * 16777216 + (k + a.n))) c.head_size.ensures ∙ flags-and-length a.flags (head_size a.flags + a.n) (omega arith) (omega arith) in
-    wrote_then (omega arith) c.put_u32-a.ensures
-    (wrote_then (omega arith) (wrote-same e c.put_u32-b.ensures) c.put_vendor.ensures)
+    wrote_then (omega arith) c.put-a.ensures
+    (wrote_then (omega arith) (wrote-same e c.put-b.ensures) c.put_vendor.ensures)

@@ -8,10 +8,10 @@ use Rattle.avp.proofs.write.put_number.Goals as goal
 pub put_group_head-a-requires : goal.put_group_head-a-requires
 put_group_head-a-requires c = (omega arith, omega (arith, (rw (length-group c.args.key.vendor c.args.key.code (be 4 c.args.v) refl) at c.requires)))
 
-pub put_u32-requires : goal.put_u32-requires
-put_u32-requires c = omega (arith, (rw (length-group c.args.key.vendor c.args.key.code (be 4 c.args.v) refl) at c.requires))
+pub put-requires : goal.put-requires
+put-requires c = omega (arith, (rw (length-group c.args.key.vendor c.args.key.code (be 4 c.args.v) refl) at c.requires))
 
 pub returns : goal.returns
 returns c =
     let r = (rw (length-group c.args.key.vendor c.args.key.code (be 4 c.args.v) refl) at c.requires) in
-    wrote-group c.args.key.vendor c.args.key.code (be 4 c.args.v) refl (omega arith) c.put_group_head-a.ensures c.put_u32.ensures
+    wrote-group c.args.key.vendor c.args.key.code (be 4 c.args.v) refl (omega arith) c.put_group_head-a.ensures c.put.ensures

@@ -4,13 +4,13 @@ use Rattle.wire.proofs.PutLaws.{wrote_nothing}
 use Rattle.avp.proofs.FieldLaws.{field_with_v, field_without_v}
 use Rattle.avp.proofs.write.put_vendor.Goals as goal
 
-pub put_u32-requires : goal.put_u32-requires
-put_u32-requires c =
+pub put-requires : goal.put-requires
+put-requires c =
     rw (field_with_v _ _ (sym c.has_v.ensures ∙ c.if-has_v.true)) at c.requires
 
 pub returns-then-has_v : goal.returns-then-has_v
 returns-then-has_v c =
-    rw (field_with_v _ _ (sym c.has_v.ensures ∙ c.if-has_v.true)) c.put_u32.ensures
+    rw (field_with_v _ _ (sym c.has_v.ensures ∙ c.if-has_v.true)) c.put.ensures
 
 pub returns-else-has_v : goal.returns-else-has_v
 returns-else-has_v c = rw (field_without_v _ _ (sym c.has_v.ensures ∙ c.if-has_v.false)) (wrote_nothing _ _)

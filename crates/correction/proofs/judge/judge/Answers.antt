@@ -16,15 +16,15 @@ returns-then-not-valid_table c = table-not-valid _ _ (sym c.valid_table.ensures 
 pub returns-then-frame-lt-FRAME_HEAD : goal.returns-then-frame-lt-FRAME_HEAD
 returns-then-frame-lt-FRAME_HEAD c = too_short _ _ (sym c.valid_table.ensures ∙ c.if-not-valid_table.false) c.if-frame-lt-FRAME_HEAD.true
 
-pub returns-then-get_u16-frame : goal.returns-then-get_u16-frame
-returns-then-get_u16-frame c = length_differs _ _ (sym c.valid_table.ensures ∙ c.if-not-valid_table.false) (λ q. c.if-get_u16-frame.true (c.get_u16.ensures ∙ q))
+pub returns-then-get-frame : goal.returns-then-get-frame
+returns-then-get-frame c = length_differs _ _ (sym c.valid_table.ensures ∙ c.if-not-valid_table.false) (λ q. c.if-get-frame.true (c.get.ensures.value ∙ q))
 
 pub returns-then-frame-ne-FRAME_VERSION : goal.returns-then-frame-ne-FRAME_VERSION
-returns-then-frame-ne-FRAME_VERSION c = version_differs _ _ (sym c.valid_table.ensures ∙ c.if-not-valid_table.false) c.if-frame-lt-FRAME_HEAD.false (sym c.get_u16.ensures ∙ c.if-get_u16-frame.false) c.if-frame-ne-FRAME_VERSION.true
+returns-then-frame-ne-FRAME_VERSION c = version_differs _ _ (sym c.valid_table.ensures ∙ c.if-not-valid_table.false) c.if-frame-lt-FRAME_HEAD.false (sym c.get.ensures.value ∙ c.if-get-frame.false) c.if-frame-ne-FRAME_VERSION.true
 
 pub returns-then-size-eq0 : goal.returns-then-size-eq0
 returns-then-size-eq0 c =
-    kind-unknown _ _ (sym c.valid_table.ensures ∙ c.if-not-valid_table.false) c.if-frame-lt-FRAME_HEAD.false (sym c.get_u16.ensures ∙ c.if-get_u16-frame.false) c.if-frame-ne-FRAME_VERSION.false (sym c.value_size-size.ensures ∙ c.if-size-eq0.true)
+    kind-unknown _ _ (sym c.valid_table.ensures ∙ c.if-not-valid_table.false) c.if-frame-lt-FRAME_HEAD.false (sym c.get.ensures.value ∙ c.if-get-frame.false) c.if-frame-ne-FRAME_VERSION.false (sym c.value_size-size.ensures ∙ c.if-size-eq0.true)
 
 pub overflow_add-sized : goal.overflow_add-sized
 overflow_add-sized c =
@@ -34,12 +34,12 @@ overflow_add-sized c =
 
 pub returns-then-not-sized : goal.returns-then-not-sized
 returns-then-not-sized c =
-    size_differs _ _ (sym c.valid_table.ensures ∙ c.if-not-valid_table.false) c.if-frame-lt-FRAME_HEAD.false (sym c.get_u16.ensures ∙ c.if-get_u16-frame.false) c.if-frame-ne-FRAME_VERSION.false (λ q. c.if-size-eq0.false (c.value_size-size.ensures ∙ q)) (λ q. c.if-not-sized.true (q ∙ ap (λ (n : ℕ). frame_head + n) (sym c.value_size-size.ensures)))
+    size_differs _ _ (sym c.valid_table.ensures ∙ c.if-not-valid_table.false) c.if-frame-lt-FRAME_HEAD.false (sym c.get.ensures.value ∙ c.if-get-frame.false) c.if-frame-ne-FRAME_VERSION.false (λ q. c.if-size-eq0.false (c.value_size-size.ensures ∙ q)) (λ q. c.if-not-sized.true (q ∙ ap (λ (n : ℕ). frame_head + n) (sym c.value_size-size.ensures)))
 
 pub returns-then-not-right : goal.returns-then-not-right
 returns-then-not-right c =
-    value_not-valid _ _ (sym c.valid_table.ensures ∙ c.if-not-valid_table.false) c.if-frame-lt-FRAME_HEAD.false (sym c.get_u16.ensures ∙ c.if-get_u16-frame.false) c.if-frame-ne-FRAME_VERSION.false (λ q. c.if-size-eq0.false (c.value_size-size.ensures ∙ q)) (c.if-not-sized.false ∙ ap (λ (n : ℕ). frame_head + n) c.value_size-size.ensures) (value c.args.frame.now c.value_right-right.ensures ∙ c.if-not-right.true)
+    value_not-valid _ _ (sym c.valid_table.ensures ∙ c.if-not-valid_table.false) c.if-frame-lt-FRAME_HEAD.false (sym c.get.ensures.value ∙ c.if-get-frame.false) c.if-frame-ne-FRAME_VERSION.false (λ q. c.if-size-eq0.false (c.value_size-size.ensures ∙ q)) (c.if-not-sized.false ∙ ap (λ (n : ℕ). frame_head + n) c.value_size-size.ensures) (value c.args.frame.now c.value_right-right.ensures ∙ c.if-not-right.true)
 
 pub returns : goal.returns
 returns c =
-    record_decides _ _ (sym c.valid_table.ensures ∙ c.if-not-valid_table.false) c.if-frame-lt-FRAME_HEAD.false (sym c.get_u16.ensures ∙ c.if-get_u16-frame.false) c.if-frame-ne-FRAME_VERSION.false (λ q. c.if-size-eq0.false (c.value_size-size.ensures ∙ q)) (c.if-not-sized.false ∙ ap (λ (n : ℕ). frame_head + n) c.value_size-size.ensures) (value c.args.frame.now c.value_right-right.ensures ∙ c.if-not-right.false) c.judge_record.ensures
+    record_decides _ _ (sym c.valid_table.ensures ∙ c.if-not-valid_table.false) c.if-frame-lt-FRAME_HEAD.false (sym c.get.ensures.value ∙ c.if-get-frame.false) c.if-frame-ne-FRAME_VERSION.false (λ q. c.if-size-eq0.false (c.value_size-size.ensures ∙ q)) (c.if-not-sized.false ∙ ap (λ (n : ℕ). frame_head + n) c.value_size-size.ensures) (value c.args.frame.now c.value_right-right.ensures ∙ c.if-not-right.false) c.judge_record.ensures

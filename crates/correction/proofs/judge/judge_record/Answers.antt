@@ -16,8 +16,8 @@ change_number-change-requires c = lookup-inside (frame_imsi c.args.frame.now) c.
 
 pub returns-then-change-seen : goal.returns-then-change-seen
 returns-then-change-seen c =
-    change_differs c.args.table.now c.args.frame.now _ (sym c.find_record.ensures ∙ ap place_of c.in-At.is) (λ e. c.if-change-seen.true (c.change_number-change.ensures ∙ e ∙ sym c.get_u32-seen.ensures))
+    change_differs c.args.table.now c.args.frame.now _ (sym c.find_record.ensures ∙ ap place_of c.in-At.is) (λ e. c.if-change-seen.true (c.change_number-change.ensures ∙ e ∙ sym c.get-seen.ensures.value))
 
 pub returns : goal.returns
 returns c =
-    accepts_record c.args.table.now c.args.frame.now _ (sym c.find_record.ensures ∙ ap place_of c.in-At.is) c.requires.0 c.requires.1 (sym c.change_number-change.ensures ∙ c.if-change-seen.false ∙ c.get_u32-seen.ensures)
+    accepts_record c.args.table.now c.args.frame.now _ (sym c.find_record.ensures ∙ ap place_of c.in-At.is) c.requires.0 c.requires.1 (sym c.change_number-change.ensures ∙ c.if-change-seen.false ∙ c.get-seen.ensures.value)

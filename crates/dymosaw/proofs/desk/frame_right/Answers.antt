@@ -8,4 +8,4 @@ returns-then-frame-lt-DESK_HEAD c = frame-short c.args.frame.now c.if-frame-lt-D
 
 pub returns : goal.returns
 returns c =
-    frame_tested c.args.frame.now c.get_u32-whole.ensures c.size_right.ensures
+    frame_tested c.args.frame.now c.get-whole.ensures.value c.size_right.ensures

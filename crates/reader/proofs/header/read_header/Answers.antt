@@ -8,10 +8,10 @@ unfolding header_of
 returns c =
     λ i. record {
       version = get_or c.args.m.now 0 0;
-      length = c.get_u24.ensures.value i;
+      length = c.get.ensures.value i;
       flags = get_or c.args.m.now 4 0;
-      command = c.get_u24-2.ensures.value i;
-      application = c.get_u32.ensures i;
-      hop_by_hop = c.get_u32-2.ensures i;
-      end_to_end = c.get_u32-3.ensures i;
+      command = c.get-2.ensures.value i;
+      application = c.get-3.ensures.value i;
+      hop_by_hop = c.get-4.ensures.value i;
+      end_to_end = c.get-5.ensures.value i;
     }

@@ -7,4 +7,4 @@ use Rattle.table.proofs.lookup.key_at.Goals as goal
 pub returns : goal.returns
 unfolding key_num
 returns c =
-    two_words c.args.s.now c.args.at c.get_u64-hi.result c.get_u64-lo.result c.requires c.get_u64-hi.ensures c.get_u64-lo.ensures
+    two_words c.args.s.now c.args.at c.get-hi.result c.get-lo.result c.requires c.get-hi.ensures.value c.get-lo.ensures.value

@@ -12,4 +12,4 @@ pub returns : goal.returns
 unfolding store
 returns c =
     let a = c.args in
-    c.put_u32.ensures.made ∙ ap (λ (k : ℕ). put (k + change_at) (be 4 a.v) a.t.now) c.record_at-start.ensures
+    c.put.ensures.made ∙ ap (λ (k : ℕ). put (k + change_at) (be 4 a.v) a.t.now) c.record_at-start.ensures

@@ -9,4 +9,4 @@ use Rattle.table.proofs.record.word_of.Goals as goal
 pub returns : goal.returns
 returns c =
     let t = c.args.t.now in
-    c.get_u32.ensures ∙ ap (λ (k : ℕ). num_at 4 t (k + c.args.at)) c.record_at-start.ensures ∙ sym (number_of_record 4 t c.args.i c.args.at c.requires.1)
+    c.get.ensures.value ∙ ap (λ (k : ℕ). num_at 4 t (k + c.args.at)) c.record_at-start.ensures ∙ sym (number_of_record 4 t c.args.i c.args.at c.requires.1)
