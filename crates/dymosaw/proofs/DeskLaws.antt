@@ -17,9 +17,10 @@ use Rattle.paper.proofs.DeskLaws.{size-least, size-most, frame_parts}
 use Rattle.dymosaw.specs.declared.desk.Desk.{Desk}
 use Rattle.dymosaw.specs.declared.desk.Turned.{Turned}
 use Rattle.dymosaw.specs.declared.desk.Stepped.{Stepped}
-use Rattle.dymosaw.specs.declared.serve.Served.{Served}
-use Rattle.dymosaw.specs.declared.serve.Served.TheVariants.{Refused, Answered}
-use Rattle.dymosaw.specs.Serve.{number_of, size_of, said_by, listed_by}
+use Rattle.std.specs.Prelude.{Result, Ok, Err}
+use Rattle.dymosaw.specs.declared.serve.Answered.{Answered}
+use Rattle.dymosaw.specs.declared.serve.Silent.{Silent}
+use Rattle.dymosaw.specs.Serve.{number_of_silent, number_of, size_of, said_by, listed_by}
 use Rattle.dymosaw.specs.Serve as Serve
 use Rattle.dymosaw.specs.Entry as Entry
 use Rattle.dymosaw.specs.Desk.{table_room, turn_of, table_in, Made, Told}
@@ -55,16 +56,17 @@ made-there l x g b n s e = made l x g e b (x ++ drop n b) n (sym s) (front_store
 
 -- ---- a request's line
 
-abbrev line_for : Served → Line
+abbrev line_for : Result Answered Silent → Line
 line_for r = answer_line (number_of r) (said_by r) (size_of r) (listed_by r)
 
-pub refused-line : {r : Served} (n : ℕ) → r ≡ Refused n → {l : Line} → l ≡ plain letter_r n → l ≡ answer_line (number_of r) (said_by r) (size_of r) (listed_by r)
+pub refused-line : {r : Result Answered Silent} (refusal : Silent) → r ≡ Err refusal → {n : ℕ} → n ≡ number_of_silent refusal → {l : Line} → l ≡ plain letter_r n
+    → l ≡ answer_line (number_of r) (said_by r) (size_of r) (listed_by r)
 unfolding answer_line
-refused-line n e p = p ∙ ap line_for (sym e)
+refused-line refusal e k p = p ∙ ap (plain letter_r) k ∙ ap line_for (sym e)
 
-pub answered-line : {r : Served} {v : Verdict} (w : Verdict) (n k : ℕ) → r ≡ Answered v n k → v ≡ w
-    → answer_line 0 (some (verdict_of w)) n k ≡ answer_line (number_of r) (said_by r) (size_of r) (listed_by r)
-answered-line w n k e q = ap line_for (sym (e ∙ ap (λ (v : Verdict). Answered v n k) q))
+pub answered-line : {r : Result Answered Silent} (x : Answered) (w : Verdict) → r ≡ Ok x → x.verdict ≡ w
+    → answer_line 0 (some (verdict_of w)) x.length x.listed ≡ answer_line (number_of r) (said_by r) (size_of r) (listed_by r)
+answered-line x w e q = ap (λ (v : Verdict). answer_line 0 (some (verdict_of v)) x.length x.listed) (sym q) ∙ ap line_for (sym e)
 
 -- ---- the kinds
 
@@ -77,7 +79,7 @@ module _ (t d : List ℕ) where
   unfolding table_turn
   table-refused e p = rw (e, p)
 
-  pub answered-turn : (r : Served) {x a c : List ℕ} → Serve.came_to r x a c ≡ outcome (desk_lent t d) → {l : Line} → l ≡ answer_line (number_of r) (said_by r) (size_of r) (listed_by r)
+  pub answered-turn : (r : Result Answered Silent) {x a c : List ℕ} → Serve.came_to r x a c ≡ outcome (desk_lent t d) → {l : Line} → l ≡ answer_line (number_of r) (said_by r) (size_of r) (listed_by r)
       → turn_of l x true ≡ request_turn t d
   unfolding request_turn answer_turn
   answered-turn r {x} e p = ap (λ (k : Line). turn_of k x true) p ∙ ap answer_turn e

@@ -39,7 +39,7 @@ use Rattle.request.specs.declared.tests.Test.TheVariants.{Fine, Fails}
 use Rattle.request.specs.Test.{refusal_in, PlacesIn, Answers}
 use Rattle.table.specs.declared.lookup.Found.{Found}
 use Rattle.table.specs.Found.{place_of}
-use Rattle.dymosaw.specs.declared.serve.Served.TheVariants.{Answered}
+use Rattle.std.specs.Prelude.{Ok}
 use Rattle.dymosaw.specs.Serve.{came_to, entries_in}
 use Rattle.dymosaw.proofs.CountLaws.{entries-counted}
 
@@ -48,7 +48,7 @@ use Rattle.dymosaw.proofs.CountLaws.{entries-counted}
 -- an answer at the start of its buffer, and a list at the start of its own
 pub answered_came : (l : Lent) (t : List ℕ) (es : List Entry) (v : Verdict) (y : Reply) {n k : ℕ} {a c : List ℕ} → y.verdict ≡ verdict_of v → k ≡ length es
     → Wrote l.answer 0 (answer l.request l.host l.realm y) a n → c ≡ put 0 (cancel_bytes most_entries es) l.cancel
-    → came_to (Answered v n k) t a c ≡ answered l t es y
+    → came_to (Ok (record { verdict = v; length = n; listed = k })) t a c ≡ answered l t es y
 unfolding answered
 answered_came l t es v y said count w list =
     let size = w.next ∙ zero-add (length (answer l.request l.host l.realm y)) in
@@ -127,7 +127,7 @@ pub granted : (l : Lent) (i : ℕ) (x : Extra) {f n k : ℕ} {t a c : List ℕ} 
     → extra_of x ≡ success_items l.request (record_of l.table i) (carried_out l.request i l.table)
     → Wrote l.answer 0 (answer l.request l.host l.realm (reply_of l.request (Base (record { 0 = 2001 })) Nothing x true)) a n
     → k ≡ entries_in c
-    → came_to (Answered (Base (record { 0 = 2001 })) n k) t a c ≡ by_verdict l i (record_of l.table i) none
+    → came_to (Ok (record { verdict = Base (record { 0 = 2001 }); length = n; listed = k })) t a c ≡ by_verdict l i (record_of l.table i) none
 unfolding by_verdict
 granted l i x {f} {n} {k} {t} {a} {c} held did e w count =
     let m = l.request in

@@ -8,7 +8,7 @@ ghost use Rattle.dymosaw.specs.Desk.{table_room, line_room, turn_of, table_in, H
 
 use crate::correct::dymosaw_correct;
 use crate::line::{plain, put_line};
-use crate::serve::{Served, serve};
+use crate::serve::{Answered, Silent, serve};
 use paper::layout::{CANCEL_SIZE, LEAST_ANSWER, MOST_RECORDS, RECORD_SIZE, TABLE_HEADER};
 use paper::{Line, Verdict};
 use table::valid::valid_table;
@@ -66,29 +66,25 @@ pub struct Stepped {
 // ---- the three kinds
 
 // The answer's code, or the number of a refusal without one.
-fn answer_line(served: Served) -> Line
+fn answer_line(served: Result<Answered, Silent>) -> Line
     ensures { result ≡ answer_line (number_of served) (said_by served) (size_of served) (listed_by served) }
 {
     match served {
-        Served::Refused { number } => plain(b'R', number),
-        Served::Answered {
-            verdict,
-            length,
-            listed,
-        } => match verdict {
+        Err(refusal) => plain(b'R', u32::from(refusal)),
+        Ok(answered) => match answered.verdict {
             Verdict::Base(code) => Line {
                 letter: b'R',
                 experimental: false,
                 code: code.0,
-                size: length,
-                listed,
+                size: answered.length,
+                listed: answered.listed,
             },
             Verdict::Experimental(code) => Line {
                 letter: b'R',
                 experimental: true,
                 code: code.0,
-                size: length,
-                listed,
+                size: answered.length,
+                listed: answered.listed,
             },
         },
     }

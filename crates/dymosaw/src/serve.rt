@@ -1,6 +1,6 @@
 // A request from its bytes to the answer's bytes, the record and the list of nodes to cancel. It is decided first, with every buffer only read, and
 // written after. `serve` is the call for Rattle, `dymosaw_request` the one for C, which crates/dymosaw_c exports.
-ghost use Rattle.std.specs.Prelude.{◌≡◌, ℕ, ◌+◌, ◌<◌, ◌≤◌, List, [], length};
+ghost use Rattle.std.specs.Prelude.{◌≡◌, ℕ, ◌+◌, ◌<◌, ◌≤◌, List, [], length, Ok};
 ghost use Rattle.std.proofs.Math.Option.{none};
 ghost use Rattle.wire.specs.Number.{num_at, Bytes};
 ghost use Rattle.answer.specs.Ask.{AnswerAsk};
@@ -17,7 +17,7 @@ ghost use Rattle.paper.specs.declared.Extra.TheVariants as Extra;
 ghost use Rattle.procedures.specs.Values.{Held};
 ghost use Rattle.request.specs.Accepted.{Accepts};
 ghost use Rattle.request.specs.Held.{Places};
-ghost use Rattle.dymosaw.specs.Serve.{lent, came_to, Is, silent_number, entry_at, entries_in, Ready};
+ghost use Rattle.dymosaw.specs.Serve.{lent, came_to, Is, number_refused, silent_number, entry_at, entries_in, Ready};
 
 use answer::answer::put_answer;
 use avp::find::origin_host;
@@ -40,17 +40,43 @@ use table::lookup::{Found, find_record};
 use table::record::{downlink, restriction, uplink};
 use table::valid::valid_table;
 
-// What a request comes to: refused without an answer, by 01's number, or answered. `listed` counts the nodes to cancel.
+// What an answered request came to: what the answer says, its length, and how many nodes are listed to cancel.
 #[derive(Clone, Copy)]
-pub enum Served {
-    Refused {
-        number: u32,
-    },
-    Answered {
-        verdict: Verdict,
-        length: usize,
-        listed: usize,
-    },
+pub struct Answered {
+    pub verdict: Verdict,
+    pub length: usize,
+    pub listed: usize,
+}
+
+// Why a request gets no answer: every buffer is then as it came. specs/Serve.antt gives each its number.
+#[derive(Clone, Copy, Debug, PartialEq, Eq)]
+pub enum Silent {
+    // a request under 20 or over 4,096 bytes
+    RequestSize,
+    // R bit clear
+    NotRequest,
+    // answer or cancel buffer too short
+    ShortBuffer,
+    TableNotValid,
+    // own host or realm
+    OwnNameNotValid,
+}
+
+// The number of 01's list.
+impl From<Silent> for u32 {
+    ghost use Rattle.dymosaw.specs.Serve.{number_of_silent};
+
+    ghost from_gives = { λ refusal n. n ≡ number_of_silent refusal };
+
+    fn from(refusal: Silent) -> u32 {
+        match refusal {
+            Silent::RequestSize => 1,
+            Silent::NotRequest => 2,
+            Silent::ShortBuffer => 3,
+            Silent::TableNotValid => 4,
+            Silent::OwnNameNotValid => 5,
+        }
+    }
 }
 
 // ---- the refusals without an answer
@@ -63,37 +89,37 @@ fn is_request(request: &[u8]) -> bool
     (request[4] >> 7) % 2 == 1
 }
 
-// The number of the first that applies, 0 where none does.
-fn silent_number(
+// The first that applies, "Tested in this order"; every test is made, whichever fails.
+fn admit(
     table: &[u8],
     request: &[u8],
     host: &[u8],
     realm: &[u8],
     answer: &[u8],
     cancel: &[u8],
-) -> u32
-    ensures { result ≡ silent_number (lent table.now request.now host.now realm.now answer.now cancel.now) }
+) -> Result<(), Silent>
+    ensures { number_refused result ≡ silent_number (lent table.now request.now host.now realm.now answer.now cancel.now) }
 {
     let short = (answer.len() < LEAST_ANSWER) | (cancel.len() < CANCEL_SIZE);
     let named = is_name(host) & is_name(realm);
     let valid = valid_table(table);
     let misfit = (request.len() < LEAST_REQUEST) | (MOST_REQUEST < request.len());
     if short {
-        return 3;
+        return Err(Silent::ShortBuffer);
     }
     if !named {
-        return 5;
+        return Err(Silent::OwnNameNotValid);
     }
     if !valid {
-        return 4;
+        return Err(Silent::TableNotValid);
     }
     if misfit {
-        return 1;
+        return Err(Silent::RequestSize);
     }
     if !is_request(request) {
-        return 2;
+        return Err(Silent::NotRequest);
     }
-    0
+    Ok(())
 }
 
 // ---- refusals with an answer
@@ -108,9 +134,9 @@ fn put_refusal(
     echo: bool,
     answer: &mut [u8],
     cancel: &mut [u8],
-) -> Served
+) -> Answered
     requires { AnswerAsk answer.old request.now host.now realm.now failed (reply_of request.now verdict failed Extra.Nothing echo) × (cancel_size ≤ length cancel.old) }
-    ensures { (t : List ℕ) → came_to result t answer.new cancel.new ≡ answered (lent t request.now host.now realm.now answer.old cancel.old) t [] (reply_of request.now verdict failed Extra.Nothing echo) }
+    ensures { (t : List ℕ) → came_to (Ok result) t answer.new cancel.new ≡ answered (lent t request.now host.now realm.now answer.old cancel.old) t [] (reply_of request.now verdict failed Extra.Nothing echo) }
 {
     no_entries(cancel);
     let length = put_answer(
@@ -123,7 +149,7 @@ fn put_refusal(
         Extra::Nothing,
         echo,
     );
-    Served::Answered {
+    Answered {
         verdict,
         length,
         listed: 0,
@@ -188,9 +214,9 @@ fn grant(
     realm: &[u8],
     answer: &mut [u8],
     cancel: &mut [u8],
-) -> Served
+) -> Answered
     requires { Ready (lent table.old request.now host.now realm.now answer.old cancel.old) × Held table.old i × Accepts request.now accepted × (sender.now ≡ sender_of request.now) }
-    ensures { came_to result table.new answer.new cancel.new ≡ by_verdict (lent table.old request.now host.now realm.now answer.old cancel.old) i (record_of table.old i) none }
+    ensures { came_to (Ok result) table.new answer.new cancel.new ≡ by_verdict (lent table.old request.now host.now realm.now answer.old cancel.old) i (record_of table.old i) none }
 {
     let restriction = restriction(table, i);
     let uplink = uplink(table, i);
@@ -209,7 +235,7 @@ fn grant(
         extra,
         true,
     );
-    Served::Answered {
+    Answered {
         verdict,
         length,
         listed: entries_in(cancel),
@@ -227,9 +253,9 @@ fn serve_record(
     realm: &[u8],
     answer: &mut [u8],
     cancel: &mut [u8],
-) -> Served
+) -> Answered
     requires { Ready (lent table.old request.now host.now realm.now answer.old cancel.old) × Held table.old i × Accepts request.now accepted × (sender.now ≡ sender_of request.now) }
-    ensures { came_to result table.new answer.new cancel.new ≡ by_verdict (lent table.old request.now host.now realm.now answer.old cancel.old) i (record_of table.old i) (experimental request.now (record_of table.old i)) }
+    ensures { came_to (Ok result) table.new answer.new cancel.new ≡ by_verdict (lent table.old request.now host.now realm.now answer.old cancel.old) i (record_of table.old i) (experimental request.now (record_of table.old i)) }
 {
     let plmn = bytes_in(request, accepted.visited_plmn);
     match verdict(table, i, accepted.asked, sender, plmn) {
@@ -259,9 +285,9 @@ fn serve_accepted(
     realm: &[u8],
     answer: &mut [u8],
     cancel: &mut [u8],
-) -> Served
+) -> Answered
     requires { Ready (lent table.old request.now host.now realm.now answer.old cancel.old) × Places request.now places.now }
-    ensures { came_to result table.new answer.new cancel.new ≡ by_record (lent table.old request.now host.now realm.now answer.old cancel.old) (lookup (imsi_field request.now) table.old) }
+    ensures { came_to (Ok result) table.new answer.new cancel.new ≡ by_record (lent table.old request.now host.now realm.now answer.old cancel.old) (lookup (imsi_field request.now) table.old) }
 {
     let accepted = accept(request, places);
     let sender = origin_host(request);
@@ -293,9 +319,9 @@ fn serve_request(
     realm: &[u8],
     answer: &mut [u8],
     cancel: &mut [u8],
-) -> Served
+) -> Answered
     requires { Passed (lent table.old request.now host.now realm.now answer.old cancel.old) }
-    ensures { came_to result table.new answer.new cancel.new ≡ by_refusal (lent table.old request.now host.now realm.now answer.old cancel.old) (refusal request.now) }
+    ensures { came_to (Ok result) table.new answer.new cancel.new ≡ by_refusal (lent table.old request.now host.now realm.now answer.old cancel.old) (refusal request.now) }
 {
     let keys = all_keys();
     let kinds = all_kinds();
@@ -324,15 +350,12 @@ pub fn serve(
     realm: &[u8],
     answer: &mut [u8],
     cancel: &mut [u8],
-) -> Served
+) -> Result<Answered, Silent>
     ensures comes_to { came_to result table.new answer.new cancel.new ≡ outcome (lent table.old request.now host.now realm.now answer.old cancel.old) }
     ensures bytes { Bytes request.now }
 {
-    let number = silent_number(table, request, host, realm, answer, cancel);
-    if number != 0 {
-        return Served::Refused { number };
-    }
-    serve_request(table, request, host, realm, answer, cancel)
+    admit(table, request, host, realm, answer, cancel)?;
+    Ok(serve_request(table, request, host, realm, answer, cancel))
 }
 
 // The same for C: the high 32 bits are the refusal's number, 0 where there is an answer, and the low 32 bits the answer's length.
@@ -348,11 +371,7 @@ pub fn dymosaw_request(
     ensures bytes { Bytes request.now }
 {
     match serve(table, request, host, realm, answer, cancel) {
-        Served::Refused { number } => (number as u64) * 4294967296,
-        Served::Answered {
-            verdict: _,
-            length,
-            listed: _,
-        } => length as u64,
+        Ok(answered) => answered.length as u64,
+        Err(refusal) => u64::from(u32::from(refusal)) * 4294967296,
     }
 }

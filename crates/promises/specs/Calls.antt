@@ -1,6 +1,6 @@
 -- Calls of the public functions that met their contracts: what each was given, what it answered, what it left. `met` is word for word the function's
 -- `ensures` (proofs/Contracts.antt shows that). Assumes nothing.
-use Rattle.std.specs.Prelude.{◌≡◌, Bool, List, ℕ, ◌/◌, ◌%◌, ◌^◌}
+use Rattle.std.specs.Prelude.{◌≡◌, Bool, List, ℕ, ◌/◌, ◌%◌, ◌^◌, Result}
 use Rattle.wire.specs.Number.{Bytes}
 use Rattle.paper.specs.Correction.{Corrected, corrected}
 use Rattle.paper.specs.Find.{origin_host}
@@ -15,7 +15,8 @@ use Rattle.reader.specs.declared.message.Message.{Message}
 use Rattle.reader.specs.Message.{message_of}
 use Rattle.correction.specs.declared.judge.Answer.{Answer}
 use Rattle.correction.specs.Answer as Answered
-use Rattle.dymosaw.specs.declared.serve.Served.{Served}
+use Rattle.dymosaw.specs.declared.serve.Answered as Serving
+use Rattle.dymosaw.specs.declared.serve.Silent.{Silent}
 use Rattle.dymosaw.specs.Entry as Entry
 use Rattle.dymosaw.specs.Serve as Serve
 use Rattle.dymosaw.specs.Serve.{Is}
@@ -26,7 +27,7 @@ use Rattle.dymosaw.specs.Serve.{Is}
 pub record ServeCall : Type 0 where
   pub given : Lent
   pub bytes : Bytes given.request
-  pub result : Served
+  pub result : Result Serving.Answered Silent
   pub table : List ℕ
   pub answer : List ℕ
   pub cancel : List ℕ

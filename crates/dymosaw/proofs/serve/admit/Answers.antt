@@ -1,9 +1,9 @@
--- `silent_number` meets its contract: the tests in 01's order, each answer the number of the first that applies.
+-- `admit` meets its contract: the tests in order, each refusal the first that applies.
 -- Assumes nothing.
 use mathlib.Core.Bool.{not}
 use mathlib.Core.Path.{ap}
 use Rattle.dymosaw.proofs.ServeLaws.{both_said, said, long_enough, refused_3, refused_5, refused_4, refused_1, refused_2, not-refused}
-use Rattle.dymosaw.proofs.serve.silent_number.Goals as goal
+use Rattle.dymosaw.proofs.serve.admit.Goals as goal
 
 pub returns-then-short : goal.returns-then-short
 returns-then-short c = refused_3 _ c.if-short.true
