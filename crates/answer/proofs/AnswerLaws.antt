@@ -7,6 +7,7 @@ use Prim.Native.Nat.{ℕ, ◌+◌, ◌/◌, ◌%◌, ◌^◌, ◌≤◌, ◌<◌
 use native.Mathlib.Omega.{arith}
 use lib.ListN.{length, get_or, length-append}
 use lib.Dec.{eqb}
+use Rattle.std.specs.Prelude.{Option}
 use borrow.Author.Tests.{eq-eqb, ne_eqb}
 use Rattle.wire.specs.Number.{be}
 use Rattle.wire.specs.Put.{part, Wrote}
@@ -89,7 +90,7 @@ module _ (m host realm : List ℕ) (y : Reply) where
 
 -- ---- the AVPs
 
-module _ (m host realm : List ℕ) (v : Verdict) (f : Failed) (x : Extra) (echo : Bool) where
+module _ (m host realm : List ℕ) (v : Verdict) (f : Option Failed) (x : Option Extra) (echo : Bool) where
   pub reply_parts : session_echo m echo ++ (result_item (verdict_of v) ++ (own_items host realm ++ (failed_item (failed_in m f) ++ (extra_of x ++ proxy_echo m echo))))
       ≡ reply_avps m host realm (reply_of m v f x echo)
   unfolding reply_avps reply_of

@@ -22,6 +22,7 @@ use Rattle.avp.specs.Step.{avp_at, step_at}
 use Rattle.avp.specs.Found.{found_at, data_of}
 use Rattle.avp.specs.declared.cursor.Avp.{Avp}
 use Rattle.avp.specs.declared.cursor.Cursor.{Cursor}
+use Rattle.avp.specs.declared.cursor.Step.{Step}
 use Rattle.avp.specs.declared.cursor.Step.TheVariants.{Item, End, Bad}
 use Rattle.avp.specs.declared.find.Found.TheVariants.{At, Nothing}
 use Rattle.avp.proofs.StepLaws.{avps-end, avps_bad, avps-item, item-avp, data_at}
@@ -78,13 +79,12 @@ pub from_start : (s : List ℕ) {at : ℕ} → at ≡ 0 → each_of proxy_info (
 from_start s e = rw e
 
 module _ (s : List ℕ) (at : ℕ) where
-  pub from_end : End ≡ step_at s at → from s at ≡ []
+  -- no more AVPs
+  pub from_last : {x : Step} → x ≡ step_at s at → ((a : Avp) (next : Cursor) → x ≡ Item a next → ⊥) → from s at ≡ []
   unfolding each_of
-  from_end e = ap (each_of proxy_info) (avps-end 0 s at e)
-
-  pub from_bad : {p : ℕ} → Bad p ≡ step_at s at → from s at ≡ []
-  unfolding each_of
-  from_bad e = ap (each_of proxy_info) (avps_bad 0 s at e)
+  from_last {x = Item a next} e h = absurd (h a next refl)
+  from_last {x = End} e h = ap (each_of proxy_info) (avps-end 0 s at e)
+  from_last {x = Bad p} e h = ap (each_of proxy_info) (avps_bad 0 s at e)
 
   module _ {a : Avp} {next : Cursor} (e : Item a next ≡ step_at s at) where
     item-key : has_key 0 284 (avp_of (drop at s)) ≡ eqb a.vendor 0 && eqb a.code 284

@@ -7,6 +7,7 @@ use Prim.Native.Nat.{ℕ, ◌+◌, ◌-◌, ◌%◌, ◌≤◌}
 use native.Mathlib.Omega.{arith}
 use lib.ListN.{length, length-append}
 use lib.Dec.{eqb}
+use Rattle.std.specs.Prelude.{Option, Some, None}
 use borrow.Author.Tests.{eq-eqb, ne_eqb}
 use Rattle.wire.specs.Number.{be}
 use Rattle.wire.specs.Put.{Wrote}
@@ -14,12 +15,14 @@ use Rattle.wire.proofs.PutLaws.{wrote_then, wrote-same}
 use Rattle.paper.specs.Avp.{head_size, padded, flags_for, vendor_field, as_received, written}
 use Rattle.paper.specs.Profile.{Key, auth_session_state, origin_host, origin_realm, result_code, access_restriction_data, subscription_data, subscriber_status, ula_flags, pua_flags}
 use Rattle.paper.specs.Answer.{item, number_item, result_item, restriction_item, subscription_of}
-use Rattle.paper.specs.Shown.{verdict_of, extra_of}
+use Rattle.paper.specs.Shown.{verdict_of, subscription_in, extra_of}
 use Rattle.paper.specs.declared.ResultCode.{ResultCode}
 use Rattle.paper.specs.declared.ExperimentalCode.{ExperimentalCode}
 use Rattle.paper.specs.declared.Verdict.{Verdict}
 use Rattle.paper.specs.declared.Verdict.TheVariants.{Base, Experimental}
 use Rattle.paper.specs.declared.Extra.{Extra}
+use Rattle.paper.specs.declared.Extra.TheVariants.{Ula, Pua}
+use Rattle.paper.specs.declared.Subscription.{Subscription}
 use Rattle.paper.proofs.AvpLaws.{padded-least}
 use Rattle.paper.proofs.AnswerParts.{item-fours, fours-add, length-number}
 use Rattle.avp.specs.Written.{group_head}
@@ -131,30 +134,31 @@ subscription-least restriction uplink downlink =
     let n : 60 ≤ length d = simp (length-append, number_3gpp, length-ambr) (omega arith) in
     rw (length-written 10415 1400 true d) (let p = padded-least (length d) in omega arith)
 
-pub extra-nothing : {x : Extra} → x ≡ Extra.Nothing → [] ≡ extra_of x
+pub extra-nothing : {x : Option Extra} → x ≡ None → [] ≡ extra_of x
 unfolding extra_of
 extra-nothing e = rw e
 
-pub extra_ula : {x : Extra} {skip : Bool} {restriction uplink downlink : ℕ} → x ≡ Extra.Ula skip restriction uplink downlink → ula_items skip restriction uplink downlink ≡ extra_of x
+pub extra_ula : {x : Option Extra} {y : Extra} {o : Option Subscription} → x ≡ Some y → y ≡ Ula o → ula_items o ≡ extra_of x
 unfolding extra_of
-extra_ula e = rw e
+extra_ula e f = rw (e, f)
 
-pub extra_pua : {x : Extra} {flags : ℕ} → x ≡ Extra.Pua flags → number_item pua_flags flags ≡ extra_of x
+pub extra_pua : {x : Option Extra} {y : Extra} {flags : ℕ} → x ≡ Some y → y ≡ Pua flags → number_item pua_flags flags ≡ extra_of x
 unfolding extra_of
-extra_pua e = rw e
+extra_pua e f = rw (e, f)
 
-module _ (skip : Bool) (restriction uplink downlink : ℕ) where
-  pub length_ula : length (ula_items skip restriction uplink downlink) ≡ 16 + length (cond skip [] (subscription_of restriction uplink downlink))
-  length_ula = rw (length-append (number_item ula_flags 1), number_3gpp 1406 1)
+pub length_ula : (o : Option Subscription) → length (ula_items o) ≡ 16 + length (subscription_in o)
+length_ula o = rw (length-append (number_item ula_flags 1), number_3gpp 1406 1)
 
-  pub ula_skipped : skip ≡ true → number_item ula_flags 1 ≡ ula_items skip restriction uplink downlink
+module _ {o : Option Subscription} where
+  pub ula_skipped : o ≡ None → number_item ula_flags 1 ≡ ula_items o
   ula_skipped e = rw e (sym (append-nil (number_item ula_flags 1)))
 
-  pub ula_whole : skip ≡ false → number_item ula_flags 1 ++ subscription_of restriction uplink downlink ≡ ula_items skip restriction uplink downlink
-  ula_whole e = rw e
+  module _ {s : Subscription} (e : o ≡ Some s) where
+    pub ula_whole : number_item ula_flags 1 ++ subscription_in (Some s) ≡ ula_items o
+    ula_whole = rw e
 
-  pub ula_room : skip ≡ false → 88 ≤ length (ula_items skip restriction uplink downlink)
-  ula_room e = let s = subscription-least restriction uplink downlink in rw length_ula (rw e (omega arith))
+    pub ula_room : 88 ≤ length (ula_items o)
+    ula_room = let l = subscription-least s.restriction s.uplink s.downlink in rw (e, length_ula) (omega arith)
 
 -- ---- sizes of pairs
 

@@ -12,15 +12,15 @@ ghost use Rattle.answer.specs.Parts.{copied};
 use avp::cursor::{Avp, Cursor, Step};
 use avp::find::{Found, data, find};
 use avp::write::put_avp;
-use paper::profile::{PROXY_INFO, SESSION_ID};
+use paper::keys::{PROXY_INFO, SESSION_ID};
 
 // Session-Id, if there is one among the AVPs of `s`.
 pub fn put_session_id(out: &mut [u8], at: usize, s: &[u8]) -> usize
     requires { (length s.now < 16777200) × (at + length (echoed session_id (find session_id (avps 0 s.now))) ≤ length out.old) }
     ensures { Wrote out.old at (echoed session_id (find session_id (avps 0 s.now))) out.new result }
 {
-    match find(s, 0, SESSION_ID) {
-        Found::At(a) => put_avp(out, at, 0, SESSION_ID, true, data(s, a)),
+    match find(s, SESSION_ID.vendor, SESSION_ID.code) {
+        Found::At(a) => put_avp(out, at, SESSION_ID, true, data(s, a)),
         Found::Nothing => at,
     }
 }
@@ -30,8 +30,8 @@ fn put_if_proxy_info(out: &mut [u8], at: usize, s: &[u8], a: Avp) -> usize
     requires { (length s.now < 16777200) × Inside s.now a × (at + length (copied s.now a) ≤ length out.old) }
     ensures { Wrote out.old at (copied s.now a) out.new result }
 {
-    if (a.vendor == 0) & (a.code == PROXY_INFO) {
-        put_avp(out, at, 0, PROXY_INFO, true, data(s, a))
+    if (a.vendor == PROXY_INFO.vendor) & (a.code == PROXY_INFO.code) {
+        put_avp(out, at, PROXY_INFO, true, data(s, a))
     } else {
         at
     }
@@ -44,14 +44,9 @@ pub fn put_proxy_infos(out: &mut [u8], at: usize, s: &[u8]) -> usize
 {
     let mut c = Cursor::new();
     let mut o = at;
-    loop {
-        match c.next(s) {
-            Step::End => return o,
-            Step::Bad { at: _ } => return o,
-            Step::Item { avp, next } => {
-                o = put_if_proxy_info(out, o, s, avp);
-                c = next;
-            }
-        }
+    while let Step::Item { avp, next } = c.next(s) {
+        o = put_if_proxy_info(out, o, s, avp);
+        c = next;
     }
+    o
 }

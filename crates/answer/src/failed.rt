@@ -12,8 +12,9 @@ ghost use Rattle.answer.specs.Parts.{shown_bytes};
 use avp::cursor::{Cursor, Step, has_v};
 use avp::find::data;
 use avp::write::{put_as_received, put_group_head, put_number};
+use dictionary::Key;
 use paper::Failed;
-use paper::profile::FAILED_AVP;
+use paper::keys::FAILED_AVP;
 use wire::number::{byte_or_zero, get_cut};
 
 // The AVP at the front of `s`, its data as received.
@@ -21,23 +22,21 @@ fn put_whole(out: &mut [u8], at: usize, s: &[u8]) -> usize
     requires { (length s.now < 16777200) × (framed s.now ≡ true) × (at + length (as_received (avp_of s.now)) ≤ length out.old) }
     ensures { Wrote out.old at (as_received (avp_of s.now)) out.new result }
 {
-    match Cursor::new().next(s) {
-        Step::Item { avp, next: _ } => {
-            put_as_received(out, at, avp.code, avp.flags, avp.vendor, data(s, avp))
-        }
-        Step::End => at,
-        Step::Bad { at: _ } => at,
-    }
+    let Step::Item { avp, next: _ } = Cursor::new().next(s) else {
+        unreachable!()
+    };
+    let key = Key {
+        vendor: avp.vendor,
+        code: avp.code,
+    };
+    put_as_received(out, at, key, avp.flags, data(s, avp))
 }
 
 // The vendor field at the front of `s`, bytes past the end read as 0.
 fn vendor_or_zero(s: &[u8], flags: u8) -> u32
     ensures { result ≡ cond (has_v flags) (num_at 4 s.now 8) 0 }
 {
-    if !has_v(flags) {
-        return 0;
-    }
-    if s.len() < 8 {
+    if !has_v(flags) || s.len() < 8 {
         return 0;
     }
     get_cut(s, 8, 4) as u32
@@ -51,44 +50,43 @@ fn put_bare(out: &mut [u8], at: usize, s: &[u8]) -> usize
     let code = get_cut(s, 0, 4) as u32;
     let flags = byte_or_zero(s, 4);
     let vendor = vendor_or_zero(s, flags);
-    put_as_received(out, at, code, flags, vendor, &s[..0])
+    put_as_received(out, at, Key { vendor, code }, flags, &[])
 }
 
 // The AVP that is absent: four zero bytes for a 4-byte type, else no data.
-fn put_absent(out: &mut [u8], at: usize, vendor: u32, code: u32, four: bool) -> usize
+fn put_absent(out: &mut [u8], at: usize, key: Key, four: bool) -> usize
     requires { at + 16 ≤ length out.old }
-    ensures { Wrote out.old at (as_received (absent vendor code four)) out.new result }
+    ensures { Wrote out.old at (as_received (absent key.vendor key.code four)) out.new result }
 {
     if four {
-        put_number(out, at, vendor, code, 0)
+        put_number(out, at, key, 0)
     } else {
-        put_group_head(out, at, vendor, code, 0)
+        put_group_head(out, at, key, 0)
     }
 }
 
 // What Failed-AVP holds.
 fn put_shown(out: &mut [u8], at: usize, m: &[u8], failed: Failed) -> usize
-    requires { (length m.now ≤ most_request) × ShownIn m.now failed × (at + (length (shown_bytes (failed_in m.now failed)) + 16) ≤ length out.old) }
-    ensures { Wrote out.old at (shown_bytes (failed_in m.now failed)) out.new result }
+    requires { (length m.now ≤ most_request) × ShownIn m.now (Some failed) × (at + (length (shown_bytes (failed_in m.now (Some failed))) + 16) ≤ length out.old) }
+    ensures { Wrote out.old at (shown_bytes (failed_in m.now (Some failed))) out.new result }
 {
     match failed {
-        Failed::Nothing => at,
         Failed::Whole { at: from, end: to } => put_whole(out, at, &m[from..to]),
         Failed::Bare { at: from, end: to } => put_bare(out, at, &m[from..to]),
-        Failed::Missing { vendor, code, four } => put_absent(out, at, vendor, code, four),
+        Failed::Missing { key, four } => put_absent(out, at, key, four),
     }
 }
 
 // Failed-AVP, where there is something to show.
-pub fn put_failed(out: &mut [u8], at: usize, m: &[u8], failed: Failed) -> usize
+pub fn put_failed(out: &mut [u8], at: usize, m: &[u8], failed: Option<Failed>) -> usize
     requires { (length m.now ≤ most_request) × ShownIn m.now failed × (at + (length (shown_bytes (failed_in m.now failed)) + 24) ≤ length out.old) }
     ensures { Wrote out.old at (failed_item (failed_in m.now failed)) out.new result }
 {
+    let Some(failed) = failed else {
+        return at;
+    };
     let start = at + 8;
     let end = put_shown(out, start, m, failed);
-    if end == start {
-        return at;
-    }
-    put_group_head(out, at, 0, FAILED_AVP, end - start);
+    put_group_head(out, at, FAILED_AVP, end - start);
     end
 }

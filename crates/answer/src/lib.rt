@@ -6,3 +6,4 @@ pub mod answer;
 pub mod echo;
 pub mod failed;
 pub mod parts;
+pub mod reply;

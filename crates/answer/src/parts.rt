@@ -2,27 +2,29 @@
 ghost use Rattle.std.specs.Prelude.{◌+◌, ◌≤◌, length};
 ghost use Rattle.wire.specs.Put.{Wrote};
 ghost use Rattle.paper.specs.Layout.{most_name};
-ghost use Rattle.paper.specs.Answer.{result_item, restriction_item, subscription_of};
-ghost use Rattle.paper.specs.Shown.{verdict_of, extra_of};
+ghost use Rattle.paper.specs.Answer.{result_item, restriction_item};
+ghost use Rattle.paper.specs.Shown.{verdict_of, subscription_in, extra_of};
 ghost use Rattle.paper.specs.declared.Verdict.TheVariants.{Experimental};
 ghost use Rattle.answer.specs.Parts.{own_items, ambr_item, ula_items};
 
+use crate::reply::Own;
 use avp::write::{put_avp, put_group_head, put_number};
-use paper::profile::{
+use paper::keys::{
     ACCESS_RESTRICTION_DATA, AMBR, AUTH_SESSION_STATE, BANDWIDTH_DL, BANDWIDTH_UL,
     EXPERIMENTAL_RESULT, EXPERIMENTAL_RESULT_CODE, ORIGIN_HOST, ORIGIN_REALM, PUA_FLAGS,
-    RESULT_CODE, SUBSCRIBER_STATUS, SUBSCRIPTION_DATA, ULA_FLAGS, VENDOR_3GPP, VENDOR_ID,
+    RESULT_CODE, SUBSCRIBER_STATUS, SUBSCRIPTION_DATA, ULA_FLAGS, VENDOR_ID,
 };
-use paper::{ExperimentalCode, Extra, Verdict};
+use paper::profile::VENDOR_3GPP;
+use paper::{ExperimentalCode, Extra, Subscription, Verdict};
 
 // Experimental-Result: Vendor-Id and Experimental-Result-Code, 12 bytes each.
 fn put_experimental(out: &mut [u8], at: usize, code: ExperimentalCode) -> usize
     requires { at + 32 ≤ length out.old }
     ensures { Wrote out.old at (result_item (verdict_of (Experimental code))) out.new result }
 {
-    let a = put_group_head(out, at, 0, EXPERIMENTAL_RESULT, 24);
-    let b = put_number(out, a, 0, VENDOR_ID, VENDOR_3GPP);
-    put_number(out, b, 0, EXPERIMENTAL_RESULT_CODE, code.0)
+    let a = put_group_head(out, at, EXPERIMENTAL_RESULT, 24);
+    let b = put_number(out, a, VENDOR_ID, VENDOR_3GPP);
+    put_number(out, b, EXPERIMENTAL_RESULT_CODE, code.0)
 }
 
 // Result-Code, or Experimental-Result.
@@ -31,19 +33,19 @@ pub fn put_result(out: &mut [u8], at: usize, verdict: Verdict) -> usize
     ensures { Wrote out.old at (result_item (verdict_of verdict)) out.new result }
 {
     match verdict {
-        Verdict::Base(code) => put_number(out, at, 0, RESULT_CODE, code.0),
+        Verdict::Base(code) => put_number(out, at, RESULT_CODE, code.0),
         Verdict::Experimental(code) => put_experimental(out, at, code),
     }
 }
 
 // Auth-Session-State 1, Origin-Host, Origin-Realm.
-pub fn put_own(out: &mut [u8], at: usize, host: &[u8], realm: &[u8]) -> usize
-    requires { (length host.now ≤ most_name) × (length realm.now ≤ most_name) × (at + length (own_items host.now realm.now) ≤ length out.old) }
-    ensures { Wrote out.old at (own_items host.now realm.now) out.new result }
+pub fn put_own(out: &mut [u8], at: usize, own: Own<'_>) -> usize
+    requires { (length own.host.now ≤ most_name) × (length own.realm.now ≤ most_name) × (at + length (own_items own.host.now own.realm.now) ≤ length out.old) }
+    ensures { Wrote out.old at (own_items own.entry.host.now own.entry.realm.now) out.new result }
 {
-    let a = put_number(out, at, 0, AUTH_SESSION_STATE, 1);
-    let b = put_avp(out, a, 0, ORIGIN_HOST, true, host);
-    put_avp(out, b, 0, ORIGIN_REALM, true, realm)
+    let a = put_number(out, at, AUTH_SESSION_STATE, 1);
+    let b = put_avp(out, a, ORIGIN_HOST, true, own.host);
+    put_avp(out, b, ORIGIN_REALM, true, own.realm)
 }
 
 // AMBR: uplink, then downlink, 16 bytes each.
@@ -51,9 +53,9 @@ fn put_ambr(out: &mut [u8], at: usize, uplink: u32, downlink: u32) -> usize
     requires { at + 44 ≤ length out.old }
     ensures { Wrote out.old at (ambr_item uplink downlink) out.new result }
 {
-    let a = put_group_head(out, at, VENDOR_3GPP, AMBR, 32);
-    let b = put_number(out, a, VENDOR_3GPP, BANDWIDTH_UL, uplink);
-    put_number(out, b, VENDOR_3GPP, BANDWIDTH_DL, downlink)
+    let a = put_group_head(out, at, AMBR, 32);
+    let b = put_number(out, a, BANDWIDTH_UL, uplink);
+    put_number(out, b, BANDWIDTH_DL, downlink)
 }
 
 // Access-Restriction-Data if not 0.
@@ -64,61 +66,43 @@ fn put_restriction(out: &mut [u8], at: usize, restriction: u32) -> usize
     if restriction == 0 {
         at
     } else {
-        put_number(out, at, VENDOR_3GPP, ACCESS_RESTRICTION_DATA, restriction)
+        put_number(out, at, ACCESS_RESTRICTION_DATA, restriction)
     }
 }
 
 // Subscription-Data. Its parts come first: whether there is a restriction decides its length.
-fn put_subscription(
-    out: &mut [u8],
-    at: usize,
-    restriction: u32,
-    uplink: u32,
-    downlink: u32,
-) -> usize
+fn put_subscription(out: &mut [u8], at: usize, subscription: Subscription) -> usize
     requires { at + 88 ≤ length out.old }
-    ensures { Wrote out.old at (subscription_of restriction uplink downlink) out.new result }
+    ensures { Wrote out.old at (subscription_in (Some subscription)) out.new result }
 {
     let start = at + 12;
-    let a = put_number(out, start, VENDOR_3GPP, SUBSCRIBER_STATUS, 0);
-    let b = put_restriction(out, a, restriction);
-    let end = put_ambr(out, b, uplink, downlink);
-    put_group_head(out, at, VENDOR_3GPP, SUBSCRIPTION_DATA, end - start);
+    let a = put_number(out, start, SUBSCRIBER_STATUS, 0);
+    let b = put_restriction(out, a, subscription.restriction);
+    let end = put_ambr(out, b, subscription.uplink, subscription.downlink);
+    put_group_head(out, at, SUBSCRIPTION_DATA, end - start);
     end
 }
 
 // ULA-Flags 1, and Subscription-Data unless skipped.
-fn put_ula(
-    out: &mut [u8],
-    at: usize,
-    skip: bool,
-    restriction: u32,
-    uplink: u32,
-    downlink: u32,
-) -> usize
-    requires { at + (length (ula_items skip restriction uplink downlink) + 16) ≤ length out.old }
-    ensures { Wrote out.old at (ula_items skip restriction uplink downlink) out.new result }
+fn put_ula(out: &mut [u8], at: usize, subscription: Option<Subscription>) -> usize
+    requires { at + (length (ula_items subscription) + 16) ≤ length out.old }
+    ensures { Wrote out.old at (ula_items subscription) out.new result }
 {
-    let a = put_number(out, at, VENDOR_3GPP, ULA_FLAGS, 1);
-    if skip {
-        return a;
+    let a = put_number(out, at, ULA_FLAGS, 1);
+    match subscription {
+        Some(subscription) => put_subscription(out, a, subscription),
+        None => a,
     }
-    put_subscription(out, a, restriction, uplink, downlink)
 }
 
-// The AVPs of a success.
-pub fn put_extra(out: &mut [u8], at: usize, extra: Extra) -> usize
+// The AVPs of a success that has some of its own.
+pub fn put_extra(out: &mut [u8], at: usize, extra: Option<Extra>) -> usize
     requires { at + (length (extra_of extra) + 16) ≤ length out.old }
     ensures { Wrote out.old at (extra_of extra) out.new result }
 {
     match extra {
-        Extra::Nothing => at,
-        Extra::Ula {
-            skip,
-            restriction,
-            uplink,
-            downlink,
-        } => { put_ula(out, at, skip, restriction, uplink, downlink) }
-        Extra::Pua { flags } => put_number(out, at, VENDOR_3GPP, PUA_FLAGS, flags),
+        Some(Extra::Ula { subscription }) => put_ula(out, at, subscription),
+        Some(Extra::Pua { flags }) => put_number(out, at, PUA_FLAGS, flags),
+        None => at,
     }
 }

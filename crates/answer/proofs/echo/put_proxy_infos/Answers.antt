@@ -3,18 +3,15 @@
 use mathlib.Core.Path.{refl}
 use native.Mathlib.Omega.{arith}
 use Rattle.avp.proofs.StepLaws.{item_falls, item-inside}
-use Rattle.answer.proofs.EchoLaws.{copied_none, copied_more, copied_all, room_for_item, from_start, from_end, from_bad, from_item}
+use Rattle.answer.proofs.EchoLaws.{copied_none, copied_more, copied_all, room_for_item, from_start, from_last, from_item}
 use borrow.Author.Rules.{rules}
 use Rattle.answer.proofs.echo.put_proxy_infos.Goals as goal
 
 pub loop-avp-init : goal.loop-avp-init
 loop-avp-init c = (copied_none _ _ (from_start _ c.new-c.ensures), refl)
 
-pub returns-in-End : goal.returns-in-End
-returns-in-End c = copied_all (from_end _ _ c.in-End.ensures) c.loop-avp.invariant.0
-
-pub returns-in-Bad : goal.returns-in-Bad
-returns-in-Bad c = copied_all (from_bad _ _ c.in-Bad.ensures) c.loop-avp.invariant.0
+pub returns : goal.returns
+returns c = copied_all (from_last _ _ c.next.ensures c.in_default.not-Item) c.loop-avp.invariant.0
 
 pub put_if_proxy_info-o-requires : goal.put_if_proxy_info-o-requires
 put_if_proxy_info-o-requires c =

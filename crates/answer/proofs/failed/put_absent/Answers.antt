@@ -9,10 +9,10 @@ use Rattle.answer.proofs.FailedLaws.{absent_four, absent_empty}
 use Rattle.answer.proofs.failed.put_absent.Goals as goal
 
 pub put_number-requires : goal.put_number-requires
-put_number-requires c = let x = c.args in let h = head_size-most (flags_for x.vendor true) in rw number_size (omega arith)
+put_number-requires c = let x = c.args in let h = head_size-most (flags_for x.key.vendor true) in rw number_size (omega arith)
 
 pub put_group_head-requires : goal.put_group_head-requires
-put_group_head-requires c = let x = c.args in let n = head_most x.vendor x.code 0 in (omega arith, omega arith)
+put_group_head-requires c = let x = c.args in let n = head_most x.key.vendor x.key.code 0 in (omega arith, omega arith)
 
 pub returns-then-four : goal.returns-then-four
 returns-then-four c = wrote-same (absent_four _ _ c.if-four.true) c.put_number.ensures

@@ -2,8 +2,8 @@
 use mathlib.Core.Path.{ap}
 use native.Mathlib.Omega.{arith}
 use lib.ListN.{length, length-take, length-drop}
-use Rattle.wire.proofs.PutLaws.{wrote-same, wrote_nothing}
-use Rattle.answer.proofs.FailedLaws.{shown-nothing, shown-whole, shown-bare, shown-missing, readable-whole, readable-bare}
+use Rattle.wire.proofs.PutLaws.{wrote-same}
+use Rattle.answer.proofs.FailedLaws.{shown-whole, shown-bare, shown-missing, readable-whole, readable-bare}
 use Rattle.answer.proofs.failed.put_shown.Goals as goal
 
 pub slice_bounds-put_whole-count : goal.slice_bounds-put_whole-count
@@ -29,9 +29,6 @@ slice_bounds-put_bare-start c = let r = readable-bare c.args.m.now c.in-Bare.is 
 
 pub slice_bounds-put_bare-end : goal.slice_bounds-put_bare-end
 slice_bounds-put_bare-end c = let r = readable-bare c.args.m.now c.in-Bare.is c.requires.1 in omega arith
-
-pub returns-in-Nothing : goal.returns-in-Nothing
-returns-in-Nothing c = wrote-same (shown-nothing _ c.in-Nothing.is) (wrote_nothing _ _)
 
 pub returns-in-Whole : goal.returns-in-Whole
 returns-in-Whole c = wrote-same (shown-whole _ c.in-Whole.is) c.put_whole.ensures

@@ -15,21 +15,21 @@ put_restriction-b-requires c = let n = rw number_3gpp at c.put_number-a.ensures.
 pub put_ambr-end-requires : goal.put_ambr-end-requires
 put_ambr-end-requires c =
     let n = rw number_3gpp at c.put_number-a.ensures.next in
-    let r = restriction_most c.args.restriction in
+    let r = restriction_most c.args.subscription.restriction in
     omega arith
 
 pub put_group_head-requires : goal.put_group_head-requires
 put_group_head-requires c =
     let n = rw number_3gpp at c.put_number-a.ensures.next in
-    let r = restriction_most c.args.restriction in
-    let m = length-ambr c.args.uplink c.args.downlink in
+    let r = restriction_most c.args.subscription.restriction in
+    let m = length-ambr c.args.subscription.uplink c.args.subscription.downlink in
     (omega arith, rw head_3gpp (omega arith))
 
 pub returns : goal.returns
 returns c =
     let x = c.args in
     let n = rw number_3gpp at c.put_number-a.ensures.next in
-    let r = restriction_most x.restriction in
-    wrote-same (subscription-item x.restriction x.uplink x.downlink)
-    (wrote_closed subscription_data (subscription_parts x.restriction x.uplink x.downlink) (subscription-fours x.restriction x.uplink x.downlink) refl (omega arith)
+    let r = restriction_most x.subscription.restriction in
+    wrote-same (subscription-item x.subscription.restriction x.subscription.uplink x.subscription.downlink)
+    (wrote_closed subscription_data (subscription_parts x.subscription.restriction x.subscription.uplink x.subscription.downlink) (subscription-fours x.subscription.restriction x.subscription.uplink x.subscription.downlink) refl (omega arith)
     (wrote_then (omega arith) c.put_number-a.ensures (wrote_then (omega arith) c.put_restriction-b.ensures c.put_ambr-end.ensures)) c.put_group_head.ensures)

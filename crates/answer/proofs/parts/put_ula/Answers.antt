@@ -5,23 +5,19 @@ use Rattle.answer.proofs.PartLaws.{number_3gpp, length_ula, ula_skipped, ula_who
 use Rattle.answer.proofs.parts.put_ula.Goals as goal
 
 pub put_number-a-requires : goal.put_number-a-requires
-put_number-a-requires c = let x = c.args in let l = length_ula x.skip x.restriction x.uplink x.downlink in rw number_3gpp (omega arith)
+put_number-a-requires c = let l = length_ula c.args.subscription in rw number_3gpp (omega arith)
 
-pub returns-then-skip : goal.returns-then-skip
-returns-then-skip c =
-    let x = c.args in
-    wrote-same (ula_skipped x.skip x.restriction x.uplink x.downlink c.if-skip.true) c.put_number-a.ensures
+pub returns-in-None : goal.returns-in-None
+returns-in-None c = wrote-same (ula_skipped c.in-None.is) c.put_number-a.ensures
 
 pub put_subscription-requires : goal.put_subscription-requires
 put_subscription-requires c =
-    let x = c.args in
-    let r = ula_room x.skip x.restriction x.uplink x.downlink c.if-skip.false in
+    let r = ula_room c.in-Some.is in
     let n = rw number_3gpp at c.put_number-a.ensures.next in
     omega arith
 
-pub returns : goal.returns
-returns c =
-    let x = c.args in
+pub returns-in-Some : goal.returns-in-Some
+returns-in-Some c =
     let p = c.requires in
-    let l = length_ula x.skip x.restriction x.uplink x.downlink in
-    wrote-same (ula_whole x.skip x.restriction x.uplink x.downlink c.if-skip.false) (wrote_then (omega arith) c.put_number-a.ensures c.put_subscription.ensures)
+    let l = length_ula c.args.subscription in
+    wrote-same (ula_whole c.in-Some.is) (wrote_then (omega arith) c.put_number-a.ensures c.put_subscription.ensures)

@@ -1,6 +1,6 @@
--- `answer::answer::is_protocol_error` meets its contract. Assumes nothing.
+-- `answer::reply::Reply::is_protocol_error` meets its contract. Assumes nothing.
 use Rattle.answer.proofs.AnswerLaws.{error-base, error-experimental}
-use Rattle.answer.proofs.answer.is_protocol_error.Goals as goal
+use Rattle.answer.proofs.reply.Reply.is_protocol_error.Goals as goal
 
 pub returns-in-Base : goal.returns-in-Base
 returns-in-Base c = error-base c.in-Base.is

@@ -1,8 +1,8 @@
--- `answer::answer::reply_flags` meets its contract. Assumes nothing.
+-- `answer::reply::Reply::flags` meets its contract. Assumes nothing.
 use mathlib.Core.Path.{sym, ◌∙◌}
 use native.Mathlib.Omega.{arith}
 use Rattle.answer.proofs.AnswerLaws.{flag_most, flags_with_error, flags_without_error}
-use Rattle.answer.proofs.answer.reply_flags.Goals as goal
+use Rattle.answer.proofs.reply.Reply.flags.Goals as goal
 
 pub overflow_add-result : goal.overflow_add-result
 overflow_add-result c = let f = flag_most c.args.m.now c.proxiable_flag-flags.ensures in omega arith
