@@ -1,6 +1,6 @@
 -- The cases of the visit: of a stretch by the step at a place, of an AVP by its kind.
 -- Assumes nothing.
-use mathlib.Core.Path.{◌≡◌, sym, ap, ap₂, ◌∙◌}
+use mathlib.Core.Path.{◌≡◌, refl, sym, ap, ap₂, ◌∙◌}
 use mathlib.Core.Bool.{Bool, true, cond}
 use mathlib.Core.List.{List}
 use Prim.Native.Nat.{ℕ, ◌+◌, ◌-◌, ◌≤◌}
@@ -25,6 +25,15 @@ use Rattle.avp.specs.Step.{avp_at, step_at}
 use Rattle.avp.specs.Found.{data_of}
 use Rattle.avp.proofs.StepLaws.{after_step, avps-after, bad_place, bad_inside, item-avp, item-place, item-framed, item-inside, data_at}
 use Rattle.reader.specs.Visit.{all_seen, told_of, told_avp, ReadFrom}
+
+-- ---- what is told of two stretches in a row
+
+-- an unknown AVP with M is told where no fault stands behind it
+pub join-kept : {at to : ℕ} (w : Visit) → ((code at' to' : ℕ) → w ≡ Fault code at' to' → ⊥) → Unsupported at to ≡ join (Unsupported at to) w
+unfolding join
+join-kept (Fault code at' to') n = absurd (n code at' to' refl)
+join-kept (Unsupported at' to') n = refl
+join-kept Clean n = refl
 
 -- ---- a stretch, by the step at a place
 
