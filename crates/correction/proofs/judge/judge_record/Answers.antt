@@ -20,4 +20,4 @@ returns-then-change-seen c =
 
 pub returns : goal.returns
 returns c =
-    accepts_record c.args.table.now c.args.frame.now _ (sym c.find_record.ensures ∙ ap place_of c.in-At.is) c.requires.0 c.requires.1 (sym c.change_number-change.ensures ∙ c.if-change-seen.false ∙ c.get-seen.ensures.value)
+    accepts_record c.args.table.now c.args.frame.now _ (sym c.find_record.ensures ∙ ap place_of c.in-At.is) c.requires.0 (sym c.change_number-change.ensures ∙ c.if-change-seen.false ∙ c.get-seen.ensures.value)

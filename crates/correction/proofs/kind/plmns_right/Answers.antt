@@ -1,9 +1,9 @@
--- `plmns_right` meets its contract: a count over 8 is refused, and past the counted PLMNs the rest is all zeros.
+-- `plmns_right` meets its contract: past the counted PLMNs the rest is all zeros.
 -- Assumes nothing.
 use Rattle.std.proofs.Common.{◌+◌, ◌*◌, sym, ◌∙◌, rules}
 use Rattle.paper.specs.Layout.{plmn_size}
-use Rattle.correction.proofs.FrameLaws.{zeros_past, few_plmns}
-use Rattle.correction.proofs.frame.plmns_right.Goals as goal
+use Rattle.correction.proofs.KindLaws.{zeros_past, few_plmns}
+use Rattle.correction.proofs.kind.plmns_right.Goals as goal
 
 pub returns-then-value-used : goal.returns-then-value-used
 returns-then-value-used c =
