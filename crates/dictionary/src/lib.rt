@@ -26,11 +26,11 @@ pub enum Kind {
     Unknown,
 }
 
-// "An AVP's key is (vendor, code)"; vendor 0 where the AVP has none.
+// "An AVP's key is (vendor, code)"; vendor 0 where the AVP has none. The code comes first, so that a key's number is one load of memory.
 #[derive(Clone, Copy, Debug, PartialEq, Eq)]
 pub struct Key {
-    pub vendor: u32,
     pub code: u32,
+    pub vendor: u32,
 }
 
 impl Key {
