@@ -12,12 +12,6 @@ use dictionary::key_of;
 use paper::layout::MESSAGE_HEADER;
 use paper::profile::ORIGIN_HOST;
 
-#[derive(Clone, Copy)]
-pub enum Found {
-    At(Avp),
-    Nothing,
-}
-
 fn has_key(a: Avp, vendor: u32, code: u32) -> bool
     ensures { result ≡ (eqb a.vendor vendor && eqb a.code code) }
 {
@@ -25,69 +19,51 @@ fn has_key(a: Avp, vendor: u32, code: u32) -> bool
 }
 
 // The first AVP of a key.
-pub fn find(s: &[u8], vendor: u32, code: u32) -> Found
+pub fn find(s: &[u8], vendor: u32, code: u32) -> Option<Avp>
     ensures { result ≡ found_at s.now (first_of vendor code (avps 0 s.now)) }
 {
     let mut c = Cursor::new();
-    loop {
-        match c.next(s) {
-            Step::End => return Found::Nothing,
-            Step::Bad { at: _ } => return Found::Nothing,
-            Step::Item { avp, next } => {
-                if has_key(avp, vendor, code) {
-                    return Found::At(avp);
-                }
-                c = next;
-            }
+    while let Step::Item { avp, next } = c.next(s) {
+        if has_key(avp, vendor, code) {
+            return Some(avp);
         }
+        c = next;
     }
+    None
 }
 
-// The index of the first key that is `key`; the number of keys where there is none.
-pub fn index_of(keys: &[u64], key: u64) -> usize
+// The index of the first key that is `key`.
+pub fn index_of(keys: &[u64], key: u64) -> Option<usize>
     ensures { result ≡ index_of key keys.now }
 {
-    let mut i = 0;
-    while i < keys.len() {
-        if keys[i] == key {
-            return i;
-        }
-        i += 1;
-    }
-    i
+    keys.iter().position(|k| *k == key)
 }
 
 // The first AVP that is a second of any of the keys, by one walk: `met` says by the index of a key that it was met.
-pub fn first_second(s: &[u8], keys: &[u64]) -> Found
+pub fn first_second(s: &[u8], keys: &[u64]) -> Option<Avp>
     requires { length keys.now ≤ 16 }
     ensures { result ≡ found_at s.now (first_second keys.now [] (avps 0 s.now)) }
 {
     let mut met = [false; 16];
     let mut c = Cursor::new();
-    loop {
-        match c.next(s) {
-            Step::End => return Found::Nothing,
-            Step::Bad { at: _ } => return Found::Nothing,
-            Step::Item { avp, next } => {
-                let i = index_of(keys, key_of(avp.vendor, avp.code));
-                if i < keys.len() {
-                    if met[i] {
-                        return Found::At(avp);
-                    }
-                    met[i] = true;
-                }
-                c = next;
+    while let Step::Item { avp, next } = c.next(s) {
+        if let Some(i) = index_of(keys, key_of(avp.vendor, avp.code)) {
+            if met[i] {
+                return Some(avp);
             }
+            met[i] = true;
         }
+        c = next;
     }
+    None
 }
 
-// Where the first AVP of each of some keys stands, by the index of the key; the stretch's length where no AVP has it.
+// Where the first AVP of each of some keys stands, by the index of the key.
 #[derive(Clone, Copy)]
 pub struct Firsts {
     // A key was met twice.
     pub again: bool,
-    pub places: [usize; 16],
+    pub places: [Option<usize>; 16],
 }
 
 // The places of the first AVPs of the keys, by one walk.
@@ -96,51 +72,47 @@ pub fn first_places(s: &[u8], keys: &[u64]) -> Firsts
     ensures noted { Noted s.now keys.now result.places }
     ensures unrepeated { result.again ≡ false → first_second keys.now [] (avps 0 s.now) ≡ none }
 {
-    let end = s.len();
-    let mut places = [end; 16];
+    let mut places = [None; 16];
     let mut again = false;
     let mut c = Cursor::new();
-    loop {
-        match c.next(s) {
-            Step::End => return Firsts { again, places },
-            Step::Bad { at: _ } => return Firsts { again, places },
-            Step::Item { avp, next } => {
-                let i = index_of(keys, key_of(avp.vendor, avp.code));
-                if i < keys.len() {
-                    if places[i] == end {
-                        places[i] = avp.at;
-                    } else {
-                        again = true;
-                    }
-                }
-                c = next;
+    while let Step::Item { avp, next } = c.next(s) {
+        if let Some(i) = index_of(keys, key_of(avp.vendor, avp.code)) {
+            match places[i] {
+                None => places[i] = Some(avp.at),
+                Some(_) => again = true,
             }
         }
+        c = next;
     }
+    Firsts { again, places }
 }
 
 // The AVP at a place, if one stands there.
-fn found_at(s: &[u8], at: usize) -> Found
+fn found_at(s: &[u8], at: usize) -> Option<Avp>
     ensures { result ≡ found_by (step_at s.now at) }
 {
     let c = Cursor { at };
     match c.next(s) {
-        Step::Item { avp, next: _ } => Found::At(avp),
-        Step::End => Found::Nothing,
-        Step::Bad { at: _ } => Found::Nothing,
+        Step::Item { avp, next: _ } => Some(avp),
+        Step::End | Step::Bad { at: _ } => None,
     }
 }
 
 // The first AVP of a key: by its place where the key is one of those that were noted, else by a walk.
-pub fn find_noted(s: &[u8], keys: &[u64], places: &[usize], vendor: u32, code: u32) -> Found
+pub fn find_noted(
+    s: &[u8],
+    keys: &[u64],
+    places: &[Option<usize>],
+    vendor: u32,
+    code: u32,
+) -> Option<Avp>
     requires { Noted s.now keys.now places.now }
     ensures { result ≡ found_at s.now (first_of vendor code (avps 0 s.now)) }
 {
-    let i = index_of(keys, key_of(vendor, code));
-    if i < keys.len() {
-        return found_at(s, places[i]);
-    }
-    find(s, vendor, code)
+    let Some(i) = index_of(keys, key_of(vendor, code)) else {
+        return find(s, vendor, code);
+    };
+    found_at(s, places[i]?)
 }
 
 // The data of an AVP of `s`.
@@ -158,8 +130,8 @@ pub fn found_data(s: &[u8], vendor: u32, code: u32) -> &[u8]
     ensures { result.now ≡ body_found (first_of vendor code (avps 0 s.now)) }
 {
     match find(s, vendor, code) {
-        Found::At(a) => data(s, a),
-        Found::Nothing => &s[..0],
+        Some(a) => data(s, a),
+        None => &s[..0],
     }
 }
 

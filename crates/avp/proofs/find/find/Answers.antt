@@ -4,19 +4,11 @@ use mathlib.Core.Path.{sym, ap, ◌∙◌}
 use Rattle.paper.specs.Find.{first_of}
 use Rattle.avp.specs.Found.{found_at}
 use Rattle.avp.proofs.StepLaws.{item_falls}
-use Rattle.avp.proofs.FindLaws.{walk_start, found-item, find-end, find_bad, find-here, find-later}
+use Rattle.avp.proofs.FindLaws.{walk_start, found-item, find_over, find-here, find-later}
 use Rattle.avp.proofs.find.find.Goals as goal
 
 pub loop-avp-init : goal.loop-avp-init
 loop-avp-init c = ap (first_of _ _) (walk_start _ c.new-c.ensures)
-
-pub returns-in-End : goal.returns-in-End
-returns-in-End c =
-    sym (ap (found_at _) (c.loop-avp.invariant ∙ find-end _ _ _ _ c.in-End.ensures))
-
-pub returns-in-Bad : goal.returns-in-Bad
-returns-in-Bad c =
-    sym (ap (found_at _) (c.loop-avp.invariant ∙ find_bad _ _ _ _ c.in-Bad.ensures))
 
 pub returns-then-has_key : goal.returns-then-has_key
 returns-then-has_key c =
@@ -30,3 +22,7 @@ loop-avp-smaller c =
 pub loop-avp-preserved : goal.loop-avp-preserved
 loop-avp-preserved c =
     c.loop-avp.invariant ∙ find-later _ _ _ _ c.in-Item.ensures (sym c.has_key.ensures ∙ c.if-has_key.false)
+
+pub returns : goal.returns
+returns c =
+    sym (ap (found_at _) (c.loop-avp.invariant ∙ find_over _ _ _ _ c.next.ensures c.in_default.not-Item))

@@ -7,8 +7,8 @@ use lib.ListN.{length}
 use Rattle.avp.proofs.NotedLaws.{Noting, Once}
 use Rattle.avp.proofs.find.first_places.Given as goal
 
-abbrev pub invariant-loop-places : goal.invariant-loop-places
-invariant-loop-places l = Noting l.keys l.s l.places l.c.at × (l.again ≡ false → Once l.keys l.s l.places l.c.at) × (length l.places ≡ 16) × (l.end ≡ length l.s)
+abbrev pub invariant-loop-avp : goal.invariant-loop-avp
+invariant-loop-avp l = Noting l.keys l.s l.places l.c.at × (l.again ≡ false → Once l.keys l.s l.places l.c.at) × (length l.places ≡ 16)
 
-abbrev pub decreases-loop-places : goal.decreases-loop-places
-decreases-loop-places l = length l.s - l.c.at
+abbrev pub decreases-loop-avp : goal.decreases-loop-avp
+decreases-loop-avp l = length l.s - l.c.at

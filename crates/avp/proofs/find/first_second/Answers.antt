@@ -6,24 +6,16 @@ use lib.ListN.{length-set}
 use Rattle.avp.specs.Found.{found_at}
 use Rattle.avp.proofs.StepLaws.{item_falls}
 use Rattle.avp.proofs.FindLaws.{found-item}
-use Rattle.avp.proofs.SecondLaws.{walked_start, second-end, second_bad, second-other, second-here, second_mark}
+use Rattle.avp.proofs.SecondLaws.{walked_start, second_over, second-other, second-here, second_mark}
 use Rattle.avp.proofs.find.first_second.Goals as goal
 
 pub loop-avp-init : goal.loop-avp-init
 loop-avp-init c = (walked_start _ _ 16 c.new-c.ensures, refl)
 
-pub returns-in-End : goal.returns-in-End
-returns-in-End c =
-    sym (ap (found_at _) (second-end _ _ _ _ c.loop-avp.invariant.0 c.in-End.ensures))
-
-pub returns-in-Bad : goal.returns-in-Bad
-returns-in-Bad c =
-    sym (ap (found_at _) (second_bad _ _ _ _ c.loop-avp.invariant.0 c.in-Bad.ensures))
-
 pub returns-then-met-i : goal.returns-then-met-i
 returns-then-met-i c =
     let e = c.in-Item.ensures in
-    let s = second-here _ _ _ _ c.loop-avp.invariant.0 e c.index_of-i.ensures c.key_of.ensures.value c.if-i-keys.true c.if-met-i.true in
+    let s = second-here _ _ _ _ c.loop-avp.invariant.0 e c.key_of.ensures.value c.in-Some.ensures c.if-met-i.true in
     sym (ap (found_at _) s ∙ found-item _ _ e)
 
 pub loop-avp-smaller-else-met-i : goal.loop-avp-smaller-else-met-i
@@ -34,7 +26,7 @@ pub loop-avp-preserved-else-met-i : goal.loop-avp-preserved-else-met-i
 loop-avp-preserved-else-met-i c =
     let e = c.in-Item.ensures in
     let w = c.loop-avp.invariant in
-    (second_mark _ _ _ _ w.0 e c.index_of-i.ensures c.key_of.ensures.value c.if-i-keys.true (omega arith) c.if-met-i.false, simp length-set w.1)
+    (second_mark _ _ _ _ w.0 e c.key_of.ensures.value c.in-Some.ensures (omega arith) c.if-met-i.false, simp length-set w.1)
 
 pub loop-avp-smaller : goal.loop-avp-smaller
 loop-avp-smaller c =
@@ -42,6 +34,9 @@ loop-avp-smaller c =
 
 pub loop-avp-preserved : goal.loop-avp-preserved
 loop-avp-preserved c =
-    let e = c.in-Item.ensures in
     let w = c.loop-avp.invariant in
-    (second-other _ _ _ _ w.0 e c.index_of-i.ensures c.key_of.ensures.value c.if-i-keys.false, w.1)
+    (second-other _ _ _ _ w.0 c.in-Item.ensures c.key_of.ensures.value c.in_default-index_of.ensures, w.1)
+
+pub returns : goal.returns
+returns c =
+    sym (ap (found_at _) (second_over _ _ _ _ c.loop-avp.invariant.0 c.next.ensures c.in_default.not-Item))
