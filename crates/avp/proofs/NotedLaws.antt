@@ -17,12 +17,13 @@ use Rattle.std.specs.Option.{option_or}
 use Rattle.std.proofs.lemmas.List.{get_or-map, map-set}
 use Rattle.std.proofs.lemmas.Option.{none-some, same_Some}
 use Rattle.dictionary.specs.Rows.{key_of}
+use Rattle.dictionary.specs.declared.Key.{Key}
 use Rattle.paper.specs.Avp.{framed}
 use Rattle.paper.specs.Reader.{Placed, placed, avps}
 use Rattle.paper.specs.Find.{first_of, first_second}
 use Rattle.paper.proofs.AvpsLaws.{Stands, first_of_stands, stands_least}
-use Rattle.avp.specs.Step.{step_at}
-use Rattle.avp.specs.Found.{index_of, found_at, found_by, place_of, Noted}
+use Rattle.avp.specs.Step.{key_at, step_at}
+use Rattle.avp.specs.Found.{number, index_of, found_at, found_by, place_of, Noted}
 use Rattle.avp.specs.declared.cursor.Avp.{Avp}
 use Rattle.avp.specs.declared.cursor.Cursor.{Cursor}
 use Rattle.avp.specs.declared.cursor.Step.{Step}
@@ -63,7 +64,7 @@ unfolding placed
 first-here s at r = rw r
 
 -- the walk over `s` stands at `at`
-pub record Noting (keys s : List ℕ) (places : List (Option ℕ)) (at : ℕ) : Type 0 where
+pub record Noting (keys : List Key) (s : List ℕ) (places : List (Option ℕ)) (at : ℕ) : Type 0 where
   pub long : length keys ≤ length places
   pub first : (vendor code i : ℕ) → code < 4294967296 → index_of (key_of vendor code) keys ≡ Some i
       → place_of (first_of vendor code (avps 0 s)) ≡ chosen (get_or places i None) (place_of (first_of vendor code (avps (0 + at) (drop at s))))
@@ -73,14 +74,14 @@ nothing_there zero i = refl
 nothing_there (suc n) zero = refl
 nothing_there (suc n) (suc i) = nothing_there n i
 
-pub noting_start : (keys s : List ℕ) (n : ℕ) {at : ℕ} → at ≡ 0 → length keys ≤ n → Noting keys s (replicate n None) at
+pub noting_start : (keys : List Key) (s : List ℕ) (n : ℕ) {at : ℕ} → at ≡ 0 → length keys ≤ n → Noting keys s (replicate n None) at
 noting_start keys s n {at} e h =
     record {
       long = rw (length-replicate {A = Option ℕ} n None) h;
       first = λ vendor code i k m. ap (λ l. place_of (first_of vendor code l)) (walk_start s e) ∙ sym (ap (λ (p : Option ℕ). chosen p (place_of (first_of vendor code (avps (0 + at) (drop at s))))) (nothing_there n i));
     }
 
-module _ (keys s : List ℕ) (places : List (Option ℕ)) (at : ℕ) (w : Noting keys s places at) where
+module _ (keys : List Key) (s : List ℕ) (places : List (Option ℕ)) (at : ℕ) (w : Noting keys s places at) where
   pub noting_over : {x : Step} → x ≡ step_at s at → ((a : Avp) (next : Cursor) → x ≡ Item a next → ⊥) → Noted s keys places
   noting_over e n =
       record {
@@ -104,20 +105,20 @@ module _ (keys s : List ℕ) (places : List (Option ℕ)) (at : ℕ) (w : Noting
         w.first vendor code i k m
         ∙ ap (λ o. chosen (get_or places i None) (place_of o)) (find-later vendor code s at e (other_key vendor code a.vendor a.code n))
 
-    module _ {k : ℕ} (is : k ≡ own) where
+    module _ {k : Key} (is : k ≡ key_at a) where
       -- a key that is not looked for
-      pub noting_other : None ≡ index_of k keys → Noting keys s places next.at
+      pub noting_other : None ≡ index_of (number k) keys → Noting keys s places next.at
       noting_other h =
           record {
             long = w.long;
             first = λ vendor code i c m.
                 kept vendor code i c m
-                (λ q. none-some i (h ∙ ap (λ (x : ℕ). index_of x keys) (is ∙ sym q) ∙ m));
+                (λ q. none-some i (h ∙ ap (λ (x : ℕ). index_of x keys) (ap number is ∙ sym q) ∙ m));
           }
 
-      module _ {i : ℕ} (found : Some i ≡ index_of k keys) (narrow : a.code < 4294967296) where
+      module _ {i : ℕ} (found : Some i ≡ index_of (number k) keys) (narrow : a.code < 4294967296) where
         here : index_of own keys ≡ Some i
-        here = ap (λ (x : ℕ). index_of x keys) (sym is) ∙ sym found
+        here = ap (λ (x : Key). index_of (number x) keys) (sym is) ∙ sym found
 
         same_place : (vendor code j : ℕ) → index_of (key_of vendor code) keys ≡ Some j → key_of vendor code ≡ own → j ≡ i
         same_place vendor code j m q = same_Some j i (sym m ∙ ap (λ (x : ℕ). index_of x keys) q ∙ here)
@@ -157,27 +158,27 @@ module _ (keys s : List ℕ) (places : List (Option ℕ)) (at : ℕ) (w : Noting
 -- ---- whether a key was met twice
 
 -- the walk that looks for a second, where none was met: the keys that have a place are the ones that were met
-pub record Once (keys s : List ℕ) (places : List (Option ℕ)) (at : ℕ) : Type 0 where
+pub record Once (keys : List Key) (s : List ℕ) (places : List (Option ℕ)) (at : ℕ) : Type 0 where
   pub walked : Walked keys s (map is_some places) at
 
 map-replicate : {A B : Type 0} (f : A → B) (n : ℕ) (x : A) → map f (replicate n x) ≡ replicate n (f x)
 map-replicate f zero x = refl
 map-replicate f (suc n) x = ap (λ l. f x ∷ l) (map-replicate f n x)
 
-pub once_start : (keys s : List ℕ) (n : ℕ) {at : ℕ} → at ≡ 0 → Once keys s (replicate n None) at
+pub once_start : (keys : List Key) (s : List ℕ) (n : ℕ) {at : ℕ} → at ≡ 0 → Once keys s (replicate n None) at
 once_start keys s n e = record { walked = rw (map-replicate is_some n None) (walked_start keys s n e) }
 
-module _ (keys s : List ℕ) (places : List (Option ℕ)) (at : ℕ) (o : Once keys s places at) where
-  pub once_over : {x : Step} → x ≡ step_at s at → ((a : Avp) (next : Cursor) → x ≡ Item a next → ⊥) → first_second keys [] (avps 0 s) ≡ none
+module _ (keys : List Key) (s : List ℕ) (places : List (Option ℕ)) (at : ℕ) (o : Once keys s places at) where
+  pub once_over : {x : Step} → x ≡ step_at s at → ((a : Avp) (next : Cursor) → x ≡ Item a next → ⊥) → first_second (map number keys) [] (avps 0 s) ≡ none
   once_over e n = second_over keys s (map is_some places) at o.walked e n
 
-  module _ {a : Avp} {next : Cursor} (e : Item a next ≡ step_at s at) {k : ℕ} (is : k ≡ key_of a.vendor a.code) where
-    pub once_other : None ≡ index_of k keys → Once keys s places next.at
+  module _ {a : Avp} {next : Cursor} (e : Item a next ≡ step_at s at) {k : Key} (is : k ≡ key_at a) where
+    pub once_other : None ≡ index_of (number k) keys → Once keys s places next.at
     once_other h = record { walked = second-other keys s (map is_some places) at o.walked e is h }
 
-    pub once_mark : {i : ℕ} → Some i ≡ index_of k keys → length keys ≤ length places → get_or places i None ≡ None → (p : ℕ) → Once keys s (set places i (Some p)) next.at
+    pub once_mark : {i : ℕ} → Some i ≡ index_of (number k) keys → length keys ≤ length places → get_or places i None ≡ None → (p : ℕ) → Once keys s (set places i (Some p)) next.at
     once_mark {i} found room free p =
-        let below = index_below k keys (sym found) in
+        let below = index_below (number k) keys (sym found) in
         let flag = get_or-map is_some places i None false (omega arith) ∙ ap is_some free in
         record {
           walked = rw (map-set is_some places i (Some p))

@@ -3,7 +3,7 @@
 use mathlib.Core.Path.{◌≡◌, refl, sym, ap, ◌∙◌}
 use mathlib.Core.Bool.{Bool, true, false, cond, not, ◌||◌}
 use mathlib.Core.Option.{none, some}
-use mathlib.Core.List.{List, [], ◌∷◌}
+use mathlib.Core.List.{List, [], ◌∷◌, map}
 use Prim.Native.Nat.{ℕ, zero, suc, ◌+◌, ◌≤◌, ◌<◌}
 use Prim.Native.Nat.compare
 use native.Mathlib.Omega.{arith}
@@ -16,11 +16,12 @@ use Rattle.std.specs.List.{position_or_len}
 use Rattle.std.proofs.lemmas.List.Quantifiers.{position-Some}
 use Rattle.std.proofs.lemmas.Option.{same_Some}
 use Rattle.dictionary.specs.Rows.{key_of}
+use Rattle.dictionary.specs.declared.Key.{Key}
 use Rattle.paper.specs.Avp.{avp_of}
 use Rattle.paper.specs.Reader.{Avps, placed, avps}
 use Rattle.paper.specs.Find.{member, first_second}
-use Rattle.avp.specs.Step.{avp_at, step_at}
-use Rattle.avp.specs.Found.{index_of}
+use Rattle.avp.specs.Step.{key_at, avp_at, step_at}
+use Rattle.avp.specs.Found.{number, index_of}
 use Rattle.avp.specs.declared.cursor.Avp.{Avp}
 use Rattle.avp.specs.declared.cursor.Cursor.{Cursor}
 use Rattle.avp.specs.declared.cursor.Step.{Step}
@@ -29,42 +30,42 @@ use Rattle.avp.proofs.StepLaws.{avps-item, avps_over, item-avp}
 
 -- ---- the index of a key
 
-module _ (k : ℕ) (keys : List ℕ) {i : ℕ} (e : index_of k keys ≡ Some i) where
+module _ (k : ℕ) (keys : List Key) {i : ℕ} (e : index_of k keys ≡ Some i) where
   pub index_below : i < length keys
-  index_below = (position-Some (λ x. eqb x k) keys i 0 e).0
+  index_below = (position-Some (λ x. eqb (number x) k) keys i (record { vendor = 0; code = 0 }) e).0
 
-  index_at : get_or keys i 0 ≡ k
-  index_at = eqb-true _ _ (position-Some (λ x. eqb x k) keys i 0 e).1
+  index_at : number (get_or keys i (record { vendor = 0; code = 0 })) ≡ k
+  index_at = eqb-true _ _ (position-Some (λ x. eqb (number x) k) keys i (record { vendor = 0; code = 0 }) e).1
 
--- two keys have two indexes
-pub index_apart : (j k : ℕ) (keys : List ℕ) {i : ℕ} → index_of j keys ≡ Some i → index_of k keys ≡ Some i → j ≡ k
+-- two numbers have two indexes
+pub index_apart : (j k : ℕ) (keys : List Key) {i : ℕ} → index_of j keys ≡ Some i → index_of k keys ≡ Some i → j ≡ k
 index_apart j k keys e f = sym (index_at j keys e) ∙ index_at k keys f
 
 -- a key is among the keys where it has an index
-pub member_index : (k : ℕ) (keys : List ℕ) → member k keys ≡ is_some (index_of k keys)
+pub member_index : (k : ℕ) (keys : List Key) → member k (map number keys) ≡ is_some (index_of k keys)
 unfolding member
-member_index k keys = among keys ∙ sym (answers (ltb (position_or_len (λ x. eqb x k) keys) (length keys)))
+member_index k keys = among keys ∙ sym (answers (ltb (position_or_len (λ x. eqb (number x) k) keys) (length keys)))
   where
-    answers : (b : Bool) → is_some (cond b (Some (position_or_len (λ x. eqb x k) keys)) None) ≡ b
+    answers : (b : Bool) → is_some (cond b (Some (position_or_len (λ x. eqb (number x) k) keys)) None) ≡ b
     answers true = refl
     answers false = refl
 
-    among : (xs : List ℕ) → member k xs ≡ ltb (position_or_len (λ x. eqb x k) xs) (length xs)
+    among : (xs : List Key) → member k (map number xs) ≡ ltb (position_or_len (λ x. eqb (number x) k) xs) (length xs)
     among [] = refl
-    among (x ∷ xs) = go (eqb x k) refl (among xs)
+    among (x ∷ xs) = go (eqb (number x) k) refl (among xs)
       where
-        go : (b : Bool) → eqb x k ≡ b → member k xs ≡ ltb (position_or_len (λ y. eqb y k) xs) (length xs)
-            → eqb k x || member k xs ≡ ltb (cond (not b) (1 + position_or_len (λ y. eqb y k) xs) 0) (suc (length xs))
-        go true e f = rw (eq-eqb k x (sym (eqb-true x k e))) (sym (lt-ltb 0 (suc (length xs)) (omega arith)))
+        go : (b : Bool) → eqb (number x) k ≡ b → member k (map number xs) ≡ ltb (position_or_len (λ y. eqb (number y) k) xs) (length xs)
+            → eqb k (number x) || member k (map number xs) ≡ ltb (cond (not b) (1 + position_or_len (λ y. eqb (number y) k) xs) 0) (suc (length xs))
+        go true e f = rw (eq-eqb k (number x) (sym (eqb-true (number x) k e))) (sym (lt-ltb 0 (suc (length xs)) (omega arith)))
         go false e f =
-            let n = position_or_len (λ y. eqb y k) xs in
+            let n = position_or_len (λ y. eqb (number y) k) xs in
             let one : 1 + n ≡ suc n = omega arith in
-            rw (ne_eqb k x (λ q. eqb-false x k e (sym q)), one, compare.suc-suc) f
+            rw (ne_eqb k (number x) (λ q. eqb-false (number x) k e (sym q)), one, compare.suc-suc) f
 
 -- ---- the flags
 
 -- `flags` says by the index of each key whether it is in `met`
-abbrev Says : List ℕ → List Bool → List ℕ → Type 0
+abbrev Says : List Key → List Bool → List ℕ → Type 0
 Says keys flags met = (k i : ℕ) → index_of k keys ≡ Some i → member k met ≡ get_or flags i false
 
 get_d_default : (n i : ℕ) → get_or (replicate n false) i false ≡ false
@@ -72,12 +73,12 @@ get_d_default zero i = refl
 get_d_default (suc n) zero = refl
 get_d_default (suc n) (suc i) = get_d_default n i
 
-says_nothing : (keys : List ℕ) (n : ℕ) → Says keys (replicate n false) []
+says_nothing : (keys : List Key) (n : ℕ) → Says keys (replicate n false) []
 unfolding member
 says_nothing keys n k i e = sym (get_d_default n i)
 
 -- one more key that is met
-says-more : (keys : List ℕ) (flags : List Bool) (met : List ℕ) (key at : ℕ) → index_of key keys ≡ Some at → at < length flags → Says keys flags met
+says-more : (keys : List Key) (flags : List Bool) (met : List ℕ) (key at : ℕ) → index_of key keys ≡ Some at → at < length flags → Says keys flags met
     → Says keys (set flags at true) (key ∷ met)
 unfolding member
 says-more keys flags met key at here room says k i e = go (eqb k key) refl
@@ -93,18 +94,18 @@ says-more keys flags met key at here room says k i e = go (eqb k key) refl
 -- ---- the walk
 
 -- The walk over `s` stands at `at`: what it looks for is what is left to look for from there, with the keys that the flags say were met.
-pub record Walked (keys s : List ℕ) (flags : List Bool) (at : ℕ) : Type 0 where
+pub record Walked (keys : List Key) (s : List ℕ) (flags : List Bool) (at : ℕ) : Type 0 where
   pub met : List ℕ
   pub says : (k i : ℕ) → index_of k keys ≡ Some i → member k met ≡ get_or flags i false
-  pub same : first_second keys [] (avps 0 s) ≡ first_second keys met (avps (0 + at) (drop at s))
+  pub same : first_second (map number keys) [] (avps 0 s) ≡ first_second (map number keys) met (avps (0 + at) (drop at s))
 
-pub walked_start : (keys s : List ℕ) (n : ℕ) {at : ℕ} → at ≡ 0 → Walked keys s (replicate n false) at
+pub walked_start : (keys : List Key) (s : List ℕ) (n : ℕ) {at : ℕ} → at ≡ 0 → Walked keys s (replicate n false) at
 walked_start keys s n e = record { met = []; says = says_nothing keys n; same = rw e }
 
-module _ (keys s : List ℕ) (flags : List Bool) (at : ℕ) (w : Walked keys s flags at) where
-  pub second_over : {x : Step} → x ≡ step_at s at → ((a : Avp) (next : Cursor) → x ≡ Item a next → ⊥) → first_second keys [] (avps 0 s) ≡ none
+module _ (keys : List Key) (s : List ℕ) (flags : List Bool) (at : ℕ) (w : Walked keys s flags at) where
+  pub second_over : {x : Step} → x ≡ step_at s at → ((a : Avp) (next : Cursor) → x ≡ Item a next → ⊥) → first_second (map number keys) [] (avps 0 s) ≡ none
   unfolding first_second
-  second_over e n = w.same ∙ avps_over 0 s at e n (first_second keys w.met) none refl (λ p. refl)
+  second_over e n = w.same ∙ avps_over 0 s at e n (first_second (map number keys) w.met) none refl (λ p. refl)
 
   module _ {a : Avp} {next : Cursor} (e : Item a next ≡ step_at s at) where
     abbrev key : ℕ
@@ -117,27 +118,27 @@ module _ (keys s : List ℕ) (flags : List Bool) (at : ℕ) (w : Walked keys s f
     abbrev rest : Avps
     rest = avps (0 + next.at) (drop next.at s)
 
-    second_step : first_second keys [] (avps 0 s)
-        ≡ cond (member key keys) (cond (member key w.met) (some (placed (0 + at) (drop at s))) (first_second keys (key ∷ w.met) rest)) (first_second keys w.met rest)
+    second_step : first_second (map number keys) [] (avps 0 s)
+        ≡ cond (member key (map number keys)) (cond (member key w.met) (some (placed (0 + at) (drop at s))) (first_second (map number keys) (key ∷ w.met) rest)) (first_second (map number keys) w.met rest)
     unfolding first_second
-    second_step = w.same ∙ ap (first_second keys w.met) (avps-item 0 s at e) ∙ rw key-read
+    second_step = w.same ∙ ap (first_second (map number keys) w.met) (avps-item 0 s at e) ∙ rw key-read
 
-    module _ {k : ℕ} (own : k ≡ key) where
-      index : index_of key keys ≡ index_of k keys
-      index = ap (λ (x : ℕ). index_of x keys) (sym own)
+    module _ {k : Key} (own : k ≡ key_at a) where
+      index : index_of key keys ≡ index_of (number k) keys
+      index = ap (λ (x : Key). index_of (number x) keys) (sym own)
 
       -- a key that is not looked for
-      pub second-other : None ≡ index_of k keys → Walked keys s flags next.at
+      pub second-other : None ≡ index_of (number k) keys → Walked keys s flags next.at
       second-other h = record { met = w.met; says = w.says; same = second_step ∙ rw (member_index key keys ∙ ap is_some (index ∙ sym h)) }
 
-      module _ {i : ℕ} (found : Some i ≡ index_of k keys) where
+      module _ {i : ℕ} (found : Some i ≡ index_of (number k) keys) where
         here : index_of key keys ≡ Some i
         here = index ∙ sym found
 
-        is_key : member key keys ≡ true
+        is_key : member key (map number keys) ≡ true
         is_key = member_index key keys ∙ ap is_some here
 
-        pub second-here : get_or flags i false ≡ true → first_second keys [] (avps 0 s) ≡ some (placed (0 + at) (drop at s))
+        pub second-here : get_or flags i false ≡ true → first_second (map number keys) [] (avps 0 s) ≡ some (placed (0 + at) (drop at s))
         second-here t = second_step ∙ rw (is_key, w.says key i here ∙ t)
 
         pub second_mark : length keys ≤ length flags → get_or flags i false ≡ false → Walked keys s (set flags i true) next.at

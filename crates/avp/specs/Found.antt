@@ -6,6 +6,7 @@ use Rattle.std.proofs.Math.Option.{none, some}
 use Rattle.std.proofs.Math.Option as Paper
 use Rattle.wire.specs.Put.{part}
 use Rattle.dictionary.specs.Rows.{key_of}
+use Rattle.dictionary.specs.declared.Key.{Key}
 use Rattle.paper.specs.Reader.{Placed, avps}
 use Rattle.paper.specs.Find.{first_of}
 use Rattle.avp.specs.Step.{avp_at}
@@ -18,9 +19,13 @@ abbrev pub found_at : List ℕ → Paper.Option Placed → Option Avp
 found_at s none = None
 found_at s (some p) = Some (avp_at s p.at)
 
--- the index of the first key that is `k`
-abbrev pub index_of : ℕ → List ℕ → Option ℕ
-index_of k keys = position (λ x. eqb x k) keys
+-- a key's number, which the paper counts it by
+abbrev pub number : Key → ℕ
+number k = key_of k.vendor k.code
+
+-- the index of the first key with the number `k`
+abbrev pub index_of : ℕ → List Key → Option ℕ
+index_of k keys = position (λ x. eqb (number x) k) keys
 
 -- the answer that a step comes to
 abbrev pub found_by : Step → Option Avp
@@ -34,7 +39,7 @@ place_of none = None
 place_of (some p) = Some p.at
 
 -- `places` has by the index of each key the place of its first AVP
-pub record Noted (s keys : List ℕ) (places : List (Option ℕ)) : Type 0 where
+pub record Noted (s : List ℕ) (keys : List Key) (places : List (Option ℕ)) : Type 0 where
   pub long : length keys ≤ length places
   pub first : (vendor code i : ℕ) → code < 4294967296 → index_of (key_of vendor code) keys ≡ Some i → get_or places i None ≡ place_of (first_of vendor code (avps 0 s))
 

@@ -3,12 +3,14 @@
 ghost use Rattle.std.specs.Prelude.{◌≡◌, cond, ◌+◌, ◌<◌, ◌≤◌, ◌^◌, length};
 ghost use Rattle.wire.specs.Number.{num_at};
 ghost use Rattle.paper.specs.Avp.{has_v, has_m, head_size, padded};
-ghost use Rattle.avp.specs.Step.{step_at};
+ghost use Rattle.avp.specs.Step.{key_at, step_at};
+ghost use Rattle.avp.specs.Found.{Inside, data_of};
 
+use dictionary::Key;
 use wire::number::{U24, get};
 
 // An AVP of a stretch: its place there, the numbers of its header, and where its data starts and ends.
-#[derive(Clone, Copy)]
+#[derive(Clone, Copy, Debug, PartialEq, Eq)]
 pub struct Avp {
     pub at: usize,
     pub code: u32,
@@ -18,13 +20,13 @@ pub struct Avp {
     pub end: usize,
 }
 
-#[derive(Clone, Copy)]
+#[derive(Clone, Copy, Debug, PartialEq, Eq)]
 pub struct Cursor {
     pub at: usize,
 }
 
 // What stands at a cursor.
-#[derive(Clone, Copy)]
+#[derive(Clone, Copy, Debug, PartialEq, Eq)]
 pub enum Step {
     // An AVP that lies inside the stretch, and the cursor behind its padding.
     Item { avp: Avp, next: Cursor },
@@ -71,6 +73,28 @@ fn vendor_at(s: &[u8], at: usize, flags: u8) -> u32
         get::<u32>(s, at + 8)
     } else {
         0
+    }
+}
+
+impl Avp {
+    // "An AVP's key is (vendor, code)".
+    pub fn key(self) -> Key
+        ensures { result ≡ key_at self }
+    {
+        Key {
+            vendor: self.vendor,
+            code: self.code,
+        }
+    }
+
+    // Its data, as a part of the stretch that it was read from.
+    pub fn data(self, s: &[u8]) -> &[u8]
+        requires { Inside s.now self }
+        ensures { result.now ≡ data_of s.now self }
+    {
+        let start = self.start;
+        let end = self.end;
+        &s[start..end]
     }
 }
 

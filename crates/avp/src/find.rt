@@ -1,30 +1,24 @@
 // AVPs looked for at the top level of a stretch: the first of a key, the places of the first of several keys by one walk, the first that is a second
 // of a key of a set, and their data as a part of the caller's own slice. A stretch that breaks off is looked through as far as it can be read.
-ghost use Rattle.std.specs.Prelude.{◌≡◌, false, ◌&&◌, [], ◌≤◌, ◌<◌, eqb, length};
+ghost use Rattle.std.specs.Prelude.{◌≡◌, false, [], ◌≤◌, ◌<◌, length, map};
 ghost use Rattle.std.proofs.Math.Option.{none};
 ghost use Rattle.paper.specs.Reader.{avps};
 ghost use Rattle.paper.specs.Find.{first_of, first_second, body_found, origin_host};
 ghost use Rattle.avp.specs.Step.{step_at};
-ghost use Rattle.avp.specs.Found.{index_of, found_at, found_by, Noted, Inside, data_of};
+ghost use Rattle.avp.specs.Found.{number, index_of, found_at, found_by, Noted};
 
 use crate::cursor::{Avp, Cursor, Step};
-use dictionary::key_of;
+use dictionary::Key;
+use paper::keys::ORIGIN_HOST;
 use paper::layout::MESSAGE_HEADER;
-use paper::profile::ORIGIN_HOST;
-
-fn has_key(a: Avp, vendor: u32, code: u32) -> bool
-    ensures { result ≡ (eqb a.vendor vendor && eqb a.code code) }
-{
-    (a.vendor == vendor) & (a.code == code)
-}
 
 // The first AVP of a key.
-pub fn find(s: &[u8], vendor: u32, code: u32) -> Option<Avp>
-    ensures { result ≡ found_at s.now (first_of vendor code (avps 0 s.now)) }
+pub fn find(s: &[u8], key: Key) -> Option<Avp>
+    ensures { result ≡ found_at s.now (first_of key.vendor key.code (avps 0 s.now)) }
 {
     let mut c = Cursor::new();
     while let Step::Item { avp, next } = c.next(s) {
-        if has_key(avp, vendor, code) {
+        if avp.key() == key {
             return Some(avp);
         }
         c = next;
@@ -33,21 +27,23 @@ pub fn find(s: &[u8], vendor: u32, code: u32) -> Option<Avp>
 }
 
 // The index of the first key that is `key`.
-pub fn index_of(keys: &[u64], key: u64) -> Option<usize>
-    ensures { result ≡ index_of key keys.now }
+pub fn index_of(keys: &[Key], key: Key) -> Option<usize>
+    ensures index { result ≡ index_of (number key) keys.now }
+    ensures code_bound { key.code < 4294967296 }
 {
-    keys.iter().position(|k| *k == key)
+    let number = key.number();
+    keys.iter().position(|k| k.number() == number)
 }
 
 // The first AVP that is a second of any of the keys, by one walk: `met` says by the index of a key that it was met.
-pub fn first_second(s: &[u8], keys: &[u64]) -> Option<Avp>
+pub fn first_second(s: &[u8], keys: &[Key]) -> Option<Avp>
     requires { length keys.now ≤ 16 }
-    ensures { result ≡ found_at s.now (first_second keys.now [] (avps 0 s.now)) }
+    ensures { result ≡ found_at s.now (first_second (map number keys.now) [] (avps 0 s.now)) }
 {
     let mut met = [false; 16];
     let mut c = Cursor::new();
     while let Step::Item { avp, next } = c.next(s) {
-        if let Some(i) = index_of(keys, key_of(avp.vendor, avp.code)) {
+        if let Some(i) = index_of(keys, avp.key()) {
             if met[i] {
                 return Some(avp);
             }
@@ -67,16 +63,16 @@ pub struct Firsts {
 }
 
 // The places of the first AVPs of the keys, by one walk.
-pub fn first_places(s: &[u8], keys: &[u64]) -> Firsts
+pub fn first_places(s: &[u8], keys: &[Key]) -> Firsts
     requires { length keys.now ≤ 16 }
     ensures noted { Noted s.now keys.now result.places }
-    ensures unrepeated { result.again ≡ false → first_second keys.now [] (avps 0 s.now) ≡ none }
+    ensures unrepeated { result.again ≡ false → first_second (map number keys.now) [] (avps 0 s.now) ≡ none }
 {
     let mut places = [None; 16];
     let mut again = false;
     let mut c = Cursor::new();
     while let Step::Item { avp, next } = c.next(s) {
-        if let Some(i) = index_of(keys, key_of(avp.vendor, avp.code)) {
+        if let Some(i) = index_of(keys, avp.key()) {
             match places[i] {
                 None => places[i] = Some(avp.at),
                 Some(_) => again = true,
@@ -99,38 +95,22 @@ fn found_at(s: &[u8], at: usize) -> Option<Avp>
 }
 
 // The first AVP of a key: by its place where the key is one of those that were noted, else by a walk.
-pub fn find_noted(
-    s: &[u8],
-    keys: &[u64],
-    places: &[Option<usize>],
-    vendor: u32,
-    code: u32,
-) -> Option<Avp>
+pub fn find_noted(s: &[u8], keys: &[Key], places: &[Option<usize>], key: Key) -> Option<Avp>
     requires { Noted s.now keys.now places.now }
-    ensures { result ≡ found_at s.now (first_of vendor code (avps 0 s.now)) }
+    ensures { result ≡ found_at s.now (first_of key.vendor key.code (avps 0 s.now)) }
 {
-    let Some(i) = index_of(keys, key_of(vendor, code)) else {
-        return find(s, vendor, code);
+    let Some(i) = index_of(keys, key) else {
+        return find(s, key);
     };
     found_at(s, places[i]?)
 }
 
-// The data of an AVP of `s`.
-pub fn data(s: &[u8], a: Avp) -> &[u8]
-    requires { Inside s.now a }
-    ensures { result.now ≡ data_of s.now a }
-{
-    let start = a.start;
-    let end = a.end;
-    &s[start..end]
-}
-
 // The data of the first AVP of a key, and an empty part where there is none.
-pub fn found_data(s: &[u8], vendor: u32, code: u32) -> &[u8]
-    ensures { result.now ≡ body_found (first_of vendor code (avps 0 s.now)) }
+pub fn found_data(s: &[u8], key: Key) -> &[u8]
+    ensures { result.now ≡ body_found (first_of key.vendor key.code (avps 0 s.now)) }
 {
-    match find(s, vendor, code) {
-        Some(a) => data(s, a),
+    match find(s, key) {
+        Some(a) => a.data(s),
         None => &s[..0],
     }
 }
@@ -142,5 +122,5 @@ pub fn origin_host(m: &[u8]) -> &[u8]
     if m.len() < MESSAGE_HEADER {
         return &m[..0];
     }
-    found_data(&m[MESSAGE_HEADER..], 0, ORIGIN_HOST)
+    found_data(&m[MESSAGE_HEADER..], ORIGIN_HOST)
 }

@@ -1,6 +1,9 @@
 -- `avp::find::find` meets its contract. The loop's invariant: the first of the key is the first from the cursor on; the measure is what is left
 -- of the stretch. Assumes nothing.
 use mathlib.Core.Path.{sym, ap, ◌∙◌}
+use mathlib.Core.Bool.{◌&&◌}
+use lib.Dec.{eqb}
+use Rattle.dictionary.specs.declared.Key.{Key}
 use Rattle.paper.specs.Find.{first_of}
 use Rattle.avp.specs.Found.{found_at}
 use Rattle.avp.proofs.StepLaws.{item_falls}
@@ -10,10 +13,11 @@ use Rattle.avp.proofs.find.find.Goals as goal
 pub loop-avp-init : goal.loop-avp-init
 loop-avp-init c = ap (first_of _ _) (walk_start _ c.new-c.ensures)
 
-pub returns-then-has_key : goal.returns-then-has_key
-returns-then-has_key c =
+pub returns-then-eq : goal.returns-then-eq
+returns-then-eq c =
     let e = c.in-Item.ensures in
-    sym (ap (found_at _) (c.loop-avp.invariant ∙ find-here _ _ _ _ e (sym c.has_key.ensures ∙ c.if-has_key.true)) ∙ found-item _ _ e)
+    let k = ap (λ (x : Key). eqb x.vendor c.args.key.vendor && eqb x.code c.args.key.code) (sym c.key.ensures) ∙ sym c.eq.ensures ∙ c.if-eq.true in
+    sym (ap (found_at _) (c.loop-avp.invariant ∙ find-here _ _ _ _ e k) ∙ found-item _ _ e)
 
 pub loop-avp-smaller : goal.loop-avp-smaller
 loop-avp-smaller c =
@@ -21,7 +25,8 @@ loop-avp-smaller c =
 
 pub loop-avp-preserved : goal.loop-avp-preserved
 loop-avp-preserved c =
-    c.loop-avp.invariant ∙ find-later _ _ _ _ c.in-Item.ensures (sym c.has_key.ensures ∙ c.if-has_key.false)
+    let k = ap (λ (x : Key). eqb x.vendor c.args.key.vendor && eqb x.code c.args.key.code) (sym c.key.ensures) ∙ sym c.eq.ensures ∙ c.if-eq.false in
+    c.loop-avp.invariant ∙ find-later _ _ _ _ c.in-Item.ensures k
 
 pub returns : goal.returns
 returns c =

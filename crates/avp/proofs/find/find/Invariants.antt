@@ -8,7 +8,7 @@ use Rattle.paper.specs.Find.{first_of}
 use Rattle.avp.proofs.find.find.Given as goal
 
 abbrev pub invariant-loop-avp : goal.invariant-loop-avp
-invariant-loop-avp l = first_of l.vendor l.code (avps 0 l.s) ≡ first_of l.vendor l.code (avps (0 + l.c.at) (drop l.c.at l.s))
+invariant-loop-avp l = first_of l.key.vendor l.key.code (avps 0 l.s) ≡ first_of l.key.vendor l.key.code (avps (0 + l.c.at) (drop l.c.at l.s))
 
 abbrev pub decreases-loop-avp : goal.decreases-loop-avp
 decreases-loop-avp l = length l.s - l.c.at

@@ -19,10 +19,10 @@ pub loop-avp-preserved-in-None : goal.loop-avp-preserved-in-None
 loop-avp-preserved-in-None c =
     let e = c.in-Item.ensures in
     let w = c.loop-avp.invariant in
-    let q = c.key_of.ensures in
+    let q = c.key.ensures in
     let free = c.in-None.is in (
-      noting_mark _ _ _ _ w.0 e q.value c.in-Some.ensures q.code_bound free refl,
-      (λ o. once_mark _ _ _ _ (w.1 o) e q.value c.in-Some.ensures (omega arith) free _),
+      noting_mark _ _ _ _ w.0 e q c.in-Some.ensures.index (rw q at c.in-Some.ensures.code_bound) free refl,
+      (λ o. once_mark _ _ _ _ (w.1 o) e q c.in-Some.ensures.index (omega arith) free _),
       simp length-set w.2,
     )
 
@@ -34,8 +34,8 @@ pub loop-avp-preserved-in-Some-places : goal.loop-avp-preserved-in-Some-places
 loop-avp-preserved-in-Some-places c =
     let e = c.in-Item.ensures in
     let w = c.loop-avp.invariant in
-    let q = c.key_of.ensures in
-    (noting_again _ _ _ _ w.0 e q.value c.in-Some.ensures q.code_bound c.in-Some-places.is, (λ o. absurd (false≢true (sym o))), w.2)
+    let q = c.key.ensures in
+    (noting_again _ _ _ _ w.0 e q c.in-Some.ensures.index (rw q at c.in-Some.ensures.code_bound) c.in-Some-places.is, (λ o. absurd (false≢true (sym o))), w.2)
 
 pub loop-avp-smaller : goal.loop-avp-smaller
 loop-avp-smaller c =
@@ -45,8 +45,8 @@ pub loop-avp-preserved : goal.loop-avp-preserved
 loop-avp-preserved c =
     let e = c.in-Item.ensures in
     let w = c.loop-avp.invariant in
-    let q = c.key_of.ensures.value in
-    let n = c.in_default-index_of.ensures in
+    let q = c.key.ensures in
+    let n = c.in_default-index_of.ensures.index in
     (noting_other _ _ _ _ w.0 e q n, (λ o. once_other _ _ _ _ (w.1 o) e q n), w.2)
 
 pub returns : goal.returns

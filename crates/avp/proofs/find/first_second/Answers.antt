@@ -15,7 +15,7 @@ loop-avp-init c = (walked_start _ _ 16 c.new-c.ensures, refl)
 pub returns-then-met-i : goal.returns-then-met-i
 returns-then-met-i c =
     let e = c.in-Item.ensures in
-    let s = second-here _ _ _ _ c.loop-avp.invariant.0 e c.key_of.ensures.value c.in-Some.ensures c.if-met-i.true in
+    let s = second-here _ _ _ _ c.loop-avp.invariant.0 e c.key.ensures c.in-Some.ensures.index c.if-met-i.true in
     sym (ap (found_at _) s ∙ found-item _ _ e)
 
 pub loop-avp-smaller-else-met-i : goal.loop-avp-smaller-else-met-i
@@ -26,7 +26,7 @@ pub loop-avp-preserved-else-met-i : goal.loop-avp-preserved-else-met-i
 loop-avp-preserved-else-met-i c =
     let e = c.in-Item.ensures in
     let w = c.loop-avp.invariant in
-    (second_mark _ _ _ _ w.0 e c.key_of.ensures.value c.in-Some.ensures (omega arith) c.if-met-i.false, simp length-set w.1)
+    (second_mark _ _ _ _ w.0 e c.key.ensures c.in-Some.ensures.index (omega arith) c.if-met-i.false, simp length-set w.1)
 
 pub loop-avp-smaller : goal.loop-avp-smaller
 loop-avp-smaller c =
@@ -35,7 +35,7 @@ loop-avp-smaller c =
 pub loop-avp-preserved : goal.loop-avp-preserved
 loop-avp-preserved c =
     let w = c.loop-avp.invariant in
-    (second-other _ _ _ _ w.0 c.in-Item.ensures c.key_of.ensures.value c.in_default-index_of.ensures, w.1)
+    (second-other _ _ _ _ w.0 c.in-Item.ensures c.key.ensures c.in_default-index_of.ensures.index, w.1)
 
 pub returns : goal.returns
 returns c =
