@@ -1,7 +1,7 @@
 -- `avp::find::find` meets its contract. The loop's invariant: the first of the key is the first from the cursor on; the measure is what is left
 -- of the stretch. Assumes nothing.
 use mathlib.Core.Path.{sym, ap, ◌∙◌}
-use mathlib.Core.Bool.{◌&&◌}
+use mathlib.Core.Bool.{◌&&◌, and_comm}
 use lib.Dec.{eqb}
 use Rattle.dictionary.specs.declared.Key.{Key}
 use Rattle.paper.specs.Find.{first_of}
@@ -16,7 +16,8 @@ loop-avp-init c = ap (first_of _ _) (walk_start _ c.new-c.ensures)
 pub returns-then-eq : goal.returns-then-eq
 returns-then-eq c =
     let e = c.in-Item.ensures in
-    let k = ap (λ (x : Key). eqb x.vendor c.args.key.vendor && eqb x.code c.args.key.code) (sym c.key.ensures) ∙ sym c.eq.ensures ∙ c.if-eq.true in
+    let a = c.in-Item.avp in
+    let k = and_comm (eqb a.vendor c.args.key.vendor) (eqb a.code c.args.key.code) ∙ ap (λ (x : Key). eqb x.code c.args.key.code && eqb x.vendor c.args.key.vendor) (sym c.key.ensures) ∙ sym c.eq.ensures ∙ c.if-eq.true in
     sym (ap (found_at _) (c.loop-avp.invariant ∙ find-here _ _ _ _ e k) ∙ found-item _ _ e)
 
 pub loop-avp-smaller : goal.loop-avp-smaller
@@ -25,7 +26,8 @@ loop-avp-smaller c =
 
 pub loop-avp-preserved : goal.loop-avp-preserved
 loop-avp-preserved c =
-    let k = ap (λ (x : Key). eqb x.vendor c.args.key.vendor && eqb x.code c.args.key.code) (sym c.key.ensures) ∙ sym c.eq.ensures ∙ c.if-eq.false in
+    let a = c.in-Item.avp in
+    let k = and_comm (eqb a.vendor c.args.key.vendor) (eqb a.code c.args.key.code) ∙ ap (λ (x : Key). eqb x.code c.args.key.code && eqb x.vendor c.args.key.vendor) (sym c.key.ensures) ∙ sym c.eq.ensures ∙ c.if-eq.false in
     c.loop-avp.invariant ∙ find-later _ _ _ _ c.in-Item.ensures k
 
 pub returns : goal.returns
