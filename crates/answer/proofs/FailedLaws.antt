@@ -4,7 +4,7 @@ use mathlib.Core.Path.{◌≡◌, refl, sym, ap, ◌∙◌}
 use mathlib.Core.Bool.{Bool, true, false, cond, false≢true}
 use mathlib.Core.Option as Math
 use mathlib.Core.Option.{none, some}
-use mathlib.Core.List.{List, [], append-nil}
+use mathlib.Core.List.{List, []}
 use Prim.Native.Nat.{ℕ, zero, suc, ◌+◌, ◌%◌, ◌≤◌}
 use native.Mathlib.Omega.{arith}
 use lib.ListN.{length, get_or, replicate, length-take, length-drop, get_or-eq_default}
@@ -22,15 +22,15 @@ use Rattle.dictionary.specs.declared.Key.{Key}
 use Rattle.paper.proofs.AvpLaws.{framed-least, framed-sizes, padded-least, padded-most, head_size-least, head_size-most, padded-fours}
 use Rattle.paper.proofs.AvpsLaws.{size-read}
 use Rattle.paper.proofs.WrittenLaws.{length_as_received}
-use Rattle.avp.specs.Step.{step_at}
+use Rattle.avp.specs.Step.{step_at, key_at}
 use Rattle.avp.specs.Found.{Inside, data_of}
-use Rattle.avp.specs.Written.{group_head, received}
+use Rattle.avp.specs.Written.{received}
 use Rattle.avp.specs.declared.cursor.Avp.{Avp as Read}
 use Rattle.avp.specs.declared.cursor.Cursor.{Cursor}
 use Rattle.avp.specs.declared.cursor.Step.{Step}
 use Rattle.avp.specs.declared.cursor.Step.TheVariants.{Item, End, Bad}
 use Rattle.avp.proofs.StepLaws.{end-place, bad_unframed, item-avp, item-inside}
-use Rattle.avp.proofs.WriteLaws.{received-at, group_parts, length-written}
+use Rattle.avp.proofs.WriteLaws.{received-at, length-written}
 use Rattle.answer.specs.Parts.{shown_bytes}
 
 -- ---- by the case of `Failed`
@@ -60,9 +60,10 @@ module _ (s : List ℕ) {at : ℕ} (z : at ≡ 0) where
   pub front_inside : {a : Read} {next : Cursor} → Item a next ≡ step_at s at → Inside s a
   front_inside e = item-inside s at e
 
-  pub front_received : {a : Read} {next : Cursor} {x : List ℕ} → Item a next ≡ step_at s at → x ≡ data_of s a
-      → received a.code a.flags a.vendor x ≡ as_received (avp_of s)
-  front_received {a} e d = ap (received a.code a.flags a.vendor) d ∙ received-at s at (item-avp s at e) ∙ rw z
+  pub front_received : {a : Read} {next : Cursor} {k : Key} {x : List ℕ} → Item a next ≡ step_at s at → k ≡ key_at a → x ≡ data_of s a
+      → received k.code a.flags k.vendor x ≡ as_received (avp_of s)
+  front_received {a} {x = x} e f d =
+      ap (λ (k : Key). received k.code a.flags k.vendor x) f ∙ ap (received a.code a.flags a.vendor) d ∙ received-at s at (item-avp s at e) ∙ rw z
 
   -- an AVP stands there, and neither the end nor a fault
   pub front_item : framed s ≡ true → {x : Step} → x ≡ step_at s at → ((a : Read) (next : Cursor) → x ≡ Item a next → ⊥) → ⊥
@@ -97,9 +98,9 @@ pub absent_four : (vendor code : ℕ) {four : Bool} → four ≡ true → writte
 unfolding written
 absent_four vendor code e = rw e
 
-pub absent_empty : (vendor code : ℕ) {four : Bool} → four ≡ false → group_head vendor code 0 ≡ as_received (absent vendor code four)
+pub absent_empty : (vendor code : ℕ) {four : Bool} → four ≡ false → written vendor code true [] ≡ as_received (absent vendor code four)
 unfolding written
-absent_empty vendor code e = rw e (sym (append-nil (group_head vendor code 0)) ∙ group_parts vendor code [] refl)
+absent_empty vendor code e = rw e
 
 -- ---- Failed-AVP
 

@@ -1,17 +1,15 @@
 -- Laws of the parts that do not come from the request: sizes of numbers and headers, groups by their parts, verdicts and the AVPs of a success by their cases.
 -- Assumes nothing.
-use mathlib.Core.Path.{◌≡◌, refl, sym, ap, ◌∙◌}
+use mathlib.Core.Path.{◌≡◌, refl, sym, ◌∙◌}
 use mathlib.Core.Bool.{Bool, true, false, cond}
 use mathlib.Core.List.{List, [], ◌++◌, append-nil}
-use Prim.Native.Nat.{ℕ, ◌+◌, ◌-◌, ◌%◌, ◌≤◌}
+use Prim.Native.Nat.{ℕ, ◌+◌, ◌%◌, ◌≤◌}
 use native.Mathlib.Omega.{arith}
 use lib.ListN.{length, length-append}
 use lib.Dec.{eqb}
 use Rattle.std.specs.Prelude.{Option, Some, None}
 use borrow.Author.Tests.{eq-eqb, ne_eqb}
 use Rattle.wire.specs.Number.{be}
-use Rattle.wire.specs.Put.{Wrote}
-use Rattle.wire.proofs.PutLaws.{wrote_then, wrote-same}
 use Rattle.paper.specs.Avp.{head_size, padded, flags_for, vendor_field, as_received, written}
 use Rattle.paper.specs.Profile.{Key, auth_session_state, origin_host, origin_realm, result_code, access_restriction_data, subscription_data, subscriber_status, ula_flags, pua_flags}
 use Rattle.paper.specs.Answer.{item, number_item, result_item, restriction_item, subscription_of}
@@ -25,9 +23,7 @@ use Rattle.paper.specs.declared.Extra.TheVariants.{Ula, Pua}
 use Rattle.paper.specs.declared.Subscription.{Subscription}
 use Rattle.paper.proofs.AvpLaws.{padded-least}
 use Rattle.paper.proofs.AnswerParts.{item-fours, fours-add, length-number}
-use Rattle.avp.specs.Written.{group_head}
-use Rattle.paper.proofs.WrittenLaws.{length_head}
-use Rattle.avp.proofs.WriteLaws.{head_size_for, length-written, wrote-group, wrote-group_under}
+use Rattle.avp.proofs.WriteLaws.{length-written}
 use Rattle.answer.specs.Parts.{own_items, ambr_item, ula_items}
 
 -- ---- sizes
@@ -44,36 +40,18 @@ number_3gpp code v = length-written 10415 code true (be 4 v)
 pub number_size : (vendor code v : ℕ) → length (written vendor code true (be 4 v)) ≡ head_size (flags_for vendor true) + 4
 number_size vendor code v = length-number (record { vendor = vendor; code = code }) v
 
-pub head_base : (code n : ℕ) → length (group_head 0 code n) ≡ 8
-head_base code n = length_head code (flags_for 0 true) 0 n ∙ head_size_for 0 true
-
-pub head_3gpp : (code n : ℕ) → length (group_head 10415 code n) ≡ 12
-head_3gpp code n = length_head code (flags_for 10415 true) 10415 n ∙ head_size_for 10415 true
-
-pub head_most : (vendor code n : ℕ) → length (group_head vendor code n) ≤ 12
-head_most vendor code n = rw (length_head code (flags_for vendor true) vendor n ∙ head_size_for vendor true) (go (eqb vendor 0))
+pub empty_most : (vendor code : ℕ) → length (written vendor code true []) ≤ 12
+unfolding padded
+empty_most vendor code = rw (length-written vendor code true []) (go (eqb vendor 0))
   where
-    go : (b : Bool) → cond b 8 12 ≤ 12
+    go : (b : Bool) → cond b 8 12 + 0 ≤ 12
     go true = omega arith
     go false = omega arith
 
 -- ---- groups
 
--- a group of two numbers, header first
-pub wrote_pair : (g x y : Key) (a b n : ℕ) {l l₁ l₂ l₃ : List ℕ} {at p q r : ℕ} → n ≡ length (number_item x a ++ number_item y b) → at ≤ length l → p ≤ length l₁
-    → Wrote l at (group_head g.vendor g.code n) l₁ p → Wrote l₁ p (number_item x a) l₂ q → Wrote l₂ q (number_item y b) l₃ r
-    → Wrote l at (item g (number_item x a ++ number_item y b)) l₃ r
-wrote_pair g x y a b n e h k w u v =
-    let d = number_item x a ++ number_item y b in
-    let f : length d % 4 ≡ 0 = rw (length-append (number_item x a) (number_item y b)) (fours-add _ _ (item-fours x (be 4 a)) (item-fours y (be 4 b))) in
-    wrote-group g.vendor g.code d f h (wrote-same (ap (group_head g.vendor g.code) e) w) (wrote_then k u v)
-
--- a group whose header is written behind its parts
-pub wrote_closed : (g : Key) (d : List ℕ) {l l₁ l₂ : List ℕ} {at start end q : ℕ} → length d % 4 ≡ 0 → start ≡ at + cond (eqb g.vendor 0) 8 12 → start ≤ length l
-    → Wrote l start d l₁ end → Wrote l₁ at (group_head g.vendor g.code (end - start)) l₂ q → Wrote l at (item g d) l₂ end
-wrote_closed g d {l} {l₁} {l₂} {at} {start} {end} {q} f e h w u =
-    let n : end - start ≡ length d = let x = w.next in omega arith in
-    wrote-group_under g.vendor g.code d f (rw e at h) (rw e at w) (wrote-same (ap (group_head g.vendor g.code) n) u)
+pub pair-fours : (x y : Key) (a b : ℕ) → length (number_item x a ++ number_item y b) % 4 ≡ 0
+pair-fours x y a b = rw (length-append (number_item x a) (number_item y b)) (fours-add _ _ (item-fours x (be 4 a)) (item-fours y (be 4 b)))
 
 -- ---- verdicts
 
@@ -121,6 +99,9 @@ subscription_parts restriction uplink downlink = number_item subscriber_status 0
 pub subscription-fours : (restriction uplink downlink : ℕ) → length (subscription_parts restriction uplink downlink) % 4 ≡ 0
 subscription-fours restriction uplink downlink =
     simp length-append (fours-add _ _ (item-fours subscriber_status (be 4 0)) (fours-add _ _ (restriction_fours restriction) (rw (length-ambr uplink downlink) refl)))
+
+pub subscription-most : (restriction uplink downlink : ℕ) → length (subscription_parts restriction uplink downlink) ≤ 76
+subscription-most restriction uplink downlink = let r = restriction_most restriction in simp (length-append, number_3gpp, length-ambr) (omega arith)
 
 pub subscription-item : (restriction uplink downlink : ℕ) → item subscription_data (subscription_parts restriction uplink downlink) ≡ subscription_of restriction uplink downlink
 unfolding subscription_of

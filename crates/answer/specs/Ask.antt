@@ -7,6 +7,8 @@ use Rattle.paper.specs.Answer.{reply_avps, answer}
 use Rattle.paper.specs.Shown.{reply_of}
 use Rattle.paper.specs.ShownIn.{ShownIn}
 use Rattle.paper.specs.declared.Failed.{Failed}
+use Rattle.avp.specs.Written.{Room}
+use Rattle.avp.specs.declared.write.Writer.{Writer}
 use Rattle.answer.specs.declared.reply.Reply.{Reply}
 
 -- what a reply says of the request `m`, in the paper's words
@@ -21,10 +23,10 @@ pub record Given (m host realm : List ℕ) (failed : Option Failed) : Type 0 whe
   pub ruled : length realm ≤ most_name
   pub readable : ShownIn m failed
 
--- room for the AVPs behind `at`, and 60 bytes more, so that a writer may ask for the most that its part takes
-pub record AvpsAsk (out : List ℕ) (at : ℕ) (m host realm : List ℕ) (failed : Option Failed) (y : Answer.Reply) : Type 0 where
+-- room for the AVPs, and 60 bytes more, so that a writer may ask for the most that its part takes
+pub record AvpsAsk (w : Writer) (m host realm : List ℕ) (failed : Option Failed) (y : Answer.Reply) : Type 0 where
   pub given : Given m host realm failed
-  pub room : at + (length (reply_avps m host realm y) + 60) ≤ length out
+  pub room : Room w (length (reply_avps m host realm y) + 60)
 
 -- "Answer buffer at least 4,352 bytes; no answer is longer than 4,292."
 pub record AnswerAsk (out m host realm : List ℕ) (failed : Option Failed) (y : Answer.Reply) : Type 0 where

@@ -46,7 +46,7 @@ impl Reply {
     }
 
     // The flags of the header: P, and E where it is set.
-    pub fn flags(self, m: &[u8]) -> u8
+    pub(crate) fn flags(self, m: &[u8]) -> u8
         requires { least_request ≤ length m.now }
         ensures { result ≡ reply_flags m.now (verdict_of self.verdict) }
     {

@@ -2,7 +2,7 @@
 use mathlib.Core.Path.{ap}
 use native.Mathlib.Omega.{arith}
 use lib.ListN.{length, length-take, length-drop}
-use Rattle.wire.proofs.PutLaws.{wrote-same}
+use Rattle.avp.proofs.WriteLaws.{appended-same}
 use Rattle.answer.proofs.FailedLaws.{shown-whole, shown-bare, shown-missing, readable-whole, readable-bare}
 use Rattle.answer.proofs.failed.put_shown.Goals as goal
 
@@ -31,10 +31,10 @@ pub slice_bounds-put_bare-end : goal.slice_bounds-put_bare-end
 slice_bounds-put_bare-end c = let r = readable-bare c.args.m.now c.in-Bare.is c.requires.1 in omega arith
 
 pub returns-in-Whole : goal.returns-in-Whole
-returns-in-Whole c = wrote-same (shown-whole _ c.in-Whole.is) c.put_whole.ensures
+returns-in-Whole c = appended-same (shown-whole _ c.in-Whole.is) c.put_whole.ensures
 
 pub returns-in-Bare : goal.returns-in-Bare
-returns-in-Bare c = wrote-same (shown-bare _ c.in-Bare.is) c.put_bare.ensures
+returns-in-Bare c = appended-same (shown-bare _ c.in-Bare.is) c.put_bare.ensures
 
 pub returns-in-Missing : goal.returns-in-Missing
-returns-in-Missing c = wrote-same (shown-missing _ c.in-Missing.is) c.put_absent.ensures
+returns-in-Missing c = appended-same (shown-missing _ c.in-Missing.is) c.put_absent.ensures

@@ -2,7 +2,7 @@
 use mathlib.Core.Path.{ap}
 use native.Mathlib.Omega.{arith}
 use lib.ListN.{length}
-use Rattle.wire.proofs.PutLaws.{wrote-same}
+use Rattle.avp.proofs.WriteLaws.{appended-same}
 use Rattle.answer.proofs.EchoLaws.{data_most}
 use Rattle.answer.proofs.FailedLaws.{front_inside, front_received, front_item}
 use Rattle.answer.proofs.failed.put_whole.Goals as goal
@@ -15,11 +15,11 @@ data-requires c = front_inside _ c.new.ensures c.in-Item.ensures
 
 pub put_as_received-requires : goal.put_as_received-requires
 put_as_received-requires c =
-    let e = ap length (front_received c.args.s.now c.new.ensures c.in-Item.ensures c.data.ensures) in
+    let e = ap length (front_received c.args.s.now c.new.ensures c.in-Item.ensures c.key.ensures c.data.ensures) in
     let d = ap length c.data.ensures in
     let m = data_most c.args.s.now c.in-Item.avp in
     (omega arith, omega arith)
 
 pub returns : goal.returns
 returns c =
-    wrote-same (front_received _ c.new.ensures c.in-Item.ensures c.data.ensures) c.put_as_received.ensures
+    appended-same (front_received _ c.new.ensures c.in-Item.ensures c.key.ensures c.data.ensures) c.put_as_received.ensures

@@ -1,6 +1,7 @@
 -- `avp::write::write_avp` meets its contract: the tests for room, then `put_avp`.
 -- Assumes nothing.
 use native.Mathlib.Omega.{arith}
+use borrow.Author.Rules.{rules}
 use Rattle.avp.proofs.WriteLaws.{too_long, no_room, room, wrote-avp}
 use Rattle.avp.proofs.write.write_avp.Goals as goal
 
@@ -24,4 +25,6 @@ put_avp-requires c =
 pub returns : goal.returns
 returns c =
     let a = c.args in
-    wrote-avp a.out.now a.at a.key.vendor a.key.code a.mandatory a.body.now (omega arith) (let e = c.written_size-size.ensures in omega arith) c.put_avp.ensures
+    let s = c.put_avp.ensures.same in
+    let e = wrote-avp a.out.now a.at a.key.vendor a.key.code a.mandatory a.body.now (omega arith) (let e = c.written_size-size.ensures in omega arith) c.put_avp.ensures.wrote in
+    search (rules, s, e)
