@@ -22,7 +22,8 @@ pub enum Kind {
     Group,
     // a group that is not entered: Failed-AVP, Proxy-Info
     Closed,
-    // no row has the key
+    // no row has the key; a case beside the five and no `Option` around them: paper's `by_kind`, `blank`, `left_of` and `empty_of` and the promise `unknown_added`
+    // (docs/PROMISES.md) speak of six, and the visit matches them once
     Unknown,
 }
 

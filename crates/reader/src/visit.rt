@@ -9,7 +9,7 @@ ghost use Rattle.reader.specs.Visit.{told_of, told_avp, ReadFrom};
 ghost use Rattle.reader.specs.Message.{visit_of};
 
 use avp::cursor::{Avp, Cursor, Step, has_m};
-use dictionary::{Key, Kind, lookup};
+use dictionary::{Kind, lookup};
 use paper::Visit;
 use paper::layout::{MESSAGE_HEADER, MOST_GROUPS};
 
@@ -85,10 +85,7 @@ fn visit_avp(s: &[u8], a: Avp, base: usize, left: usize) -> Visit
     let at = base + a.at;
     let end = base + s.len();
     let size = a.end - a.start;
-    match lookup(Key {
-        vendor: a.vendor,
-        code: a.code,
-    }) {
+    match lookup(a.key()) {
         Kind::Unknown => unknown(has_m(a.flags), at, end),
         Kind::Any | Kind::Closed => Visit::Clean,
         Kind::Four => sized(size == 4, at, end),
