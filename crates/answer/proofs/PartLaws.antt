@@ -100,9 +100,6 @@ pub subscription-fours : (restriction uplink downlink : ℕ) → length (subscri
 subscription-fours restriction uplink downlink =
     simp length-append (fours-add _ _ (item-fours subscriber_status (be 4 0)) (fours-add _ _ (restriction_fours restriction) (rw (length-ambr uplink downlink) refl)))
 
-pub subscription-most : (restriction uplink downlink : ℕ) → length (subscription_parts restriction uplink downlink) ≤ 76
-subscription-most restriction uplink downlink = let r = restriction_most restriction in simp (length-append, number_3gpp, length-ambr) (omega arith)
-
 pub subscription-item : (restriction uplink downlink : ℕ) → item subscription_data (subscription_parts restriction uplink downlink) ≡ subscription_of restriction uplink downlink
 unfolding subscription_of
 subscription-item restriction uplink downlink = refl
@@ -140,14 +137,6 @@ module _ {o : Option Subscription} where
 
     pub ula_room : 88 ≤ length (ula_items o)
     ula_room = let l = subscription-least s.restriction s.uplink s.downlink in rw (e, length_ula) (omega arith)
-
--- ---- sizes of pairs
-
-pub pair_base : (x y a b : ℕ) → 24 ≡ length (written 0 x true (be 4 a) ++ written 0 y true (be 4 b))
-pair_base x y a b = sym (length-append (written 0 x true (be 4 a)) (written 0 y true (be 4 b)) ∙ rw (number-base x a, number-base y b))
-
-pub pair_3gpp : (x y a b : ℕ) → 32 ≡ length (written 10415 x true (be 4 a) ++ written 10415 y true (be 4 b))
-pair_3gpp x y a b = sym (length-append (written 10415 x true (be 4 a)) (written 10415 y true (be 4 b)) ∙ rw (number_3gpp x a, number_3gpp y b))
 
 -- ---- the own AVPs
 

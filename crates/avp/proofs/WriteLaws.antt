@@ -14,7 +14,7 @@ use Rattle.wire.proofs.NumberLaws.{be-append}
 use Rattle.wire.proofs.ListLaws.{and-false-left, and-false-right}
 use Rattle.wire.proofs.PutLaws.{wrote_then, wrote_under, wrote-same, wrote_nothing}
 use Rattle.paper.specs.Avp.{has_v, head_size, padded, vendor_field, avp_of, as_received, flags_for, written}
-use Rattle.paper.proofs.AvpLaws.{head_size-most, padded-least, padded-whole}
+use Rattle.paper.proofs.AvpLaws.{padded-least, padded-whole}
 use Rattle.paper.proofs.WrittenLaws.{head_bytes, length_head, length_as_received}
 use Rattle.avp.specs.Step.{avp_at}
 use Rattle.avp.specs.Found.{data_of}
@@ -129,14 +129,13 @@ module _ (vendor code : ℕ) (d : List ℕ) (e : length d % 4 ≡ 0) {l l₁ l�
       wrote-same (group_parts vendor code d e) (wrote_under (rw n at h) (rw n at v) w)
 
 -- what is asked where a group is closed
-pub group_ask : (vendor : ℕ) {d : List ℕ} {w w₁ w₂ : Writer} {start : ℕ} → start ≡ w.at → Opened w (group_head_size vendor) w₁ → Appended w₁ d w₂ → length d < 16777184
+pub group_ask : (vendor : ℕ) {d : List ℕ} {w w₁ w₂ : Writer} {start : ℕ} → start ≡ w.at → Opened w (group_head_size vendor) w₁ → Appended w₁ d w₂ → w₂.at < start + 16777200
     → (start + group_head_size vendor ≤ w₂.at) × (w₂.at < start + 16777200) × Room w₂ 0
 group_ask vendor e o p h =
-    let m = head_size-most (flags_for vendor true) in
     let a = o.at in
     let n = p.wrote.next in
     let i = p.inside in
-    (omega arith, omega arith, omega arith)
+    (omega arith, h, omega arith)
 
 -- a group that is begun, filled and closed
 pub appended_group : (vendor code : ℕ) (d : List ℕ) → length d % 4 ≡ 0 → {w w₁ w₂ w₃ : Writer} {start : ℕ} → start ≡ w.at

@@ -24,8 +24,9 @@ pub close_group-requires : goal.close_group-requires
 close_group-requires c =
     let r = rw c.in-Some.is at c.requires.1 in
     let m = shown-most c.args.m.now c.in-Some.failed c.requires.0 r in
+    let h = head_size_for 0 true in
     let o = c.open_group-start.ensures in
-    group_ask 0 o.start o.opened c.put_shown.ensures (omega arith)
+    group_ask 0 o.start o.opened c.put_shown.ensures (omega (arith, o.start, o.opened.at, c.put_shown.ensures.wrote.next))
 
 pub returns-in-Some : goal.returns-in-Some
 returns-in-Some c =

@@ -3,7 +3,7 @@ use mathlib.Core.Bool.{true}
 use native.Mathlib.Omega.{arith}
 use Rattle.paper.specs.Profile.{bandwidth_uplink, bandwidth_downlink}
 use Rattle.avp.proofs.WriteLaws.{head_size_for, appended_then, group_ask, appended_group}
-use Rattle.answer.proofs.PartLaws.{number_3gpp, pair_3gpp, pair-fours}
+use Rattle.answer.proofs.PartLaws.{number_3gpp, pair-fours}
 use Rattle.answer.proofs.parts.put_ambr.Goals as goal
 
 pub open_group-start-requires : goal.open_group-start-requires
@@ -24,9 +24,11 @@ put_number-requires-2 c =
 
 pub close_group-requires : goal.close_group-requires
 close_group-requires c =
+    let h = head_size_for 10415 true in
     let o = c.open_group-start.ensures in
-    let l = pair_3gpp 516 515 c.args.uplink c.args.downlink in
-    group_ask 10415 o.start o.opened (appended_then c.put_number.ensures c.put_number-2.ensures) (omega arith)
+    let n = rw number_3gpp at c.put_number.ensures.wrote.next in
+    let k = rw number_3gpp at c.put_number-2.ensures.wrote.next in
+    group_ask 10415 o.start o.opened (appended_then c.put_number.ensures c.put_number-2.ensures) (omega (arith, o.start, o.opened.at, n, k))
 
 pub returns : goal.returns
 returns c =

@@ -4,7 +4,7 @@ use native.Mathlib.Omega.{arith}
 use Rattle.paper.specs.Answer.{result_item}
 use Rattle.paper.specs.Profile.{vendor_id, experimental_result_code}
 use Rattle.avp.proofs.WriteLaws.{head_size_for, appended_then, group_ask, appended_group}
-use Rattle.answer.proofs.PartLaws.{number-base, pair_base, pair-fours}
+use Rattle.answer.proofs.PartLaws.{number-base, pair-fours}
 use Rattle.answer.proofs.parts.put_experimental.Goals as goal
 
 pub open_group-start-requires : goal.open_group-start-requires
@@ -25,9 +25,11 @@ put_number-requires-2 c =
 
 pub close_group-requires : goal.close_group-requires
 close_group-requires c =
+    let h = head_size_for 0 true in
     let o = c.open_group-start.ensures in
-    let l = pair_base 266 298 10415 c.args.code.0 in
-    group_ask 0 o.start o.opened (appended_then c.put_number.ensures c.put_number-2.ensures) (omega arith)
+    let n = rw number-base at c.put_number.ensures.wrote.next in
+    let k = rw number-base at c.put_number-2.ensures.wrote.next in
+    group_ask 0 o.start o.opened (appended_then c.put_number.ensures c.put_number-2.ensures) (omega (arith, o.start, o.opened.at, n, k))
 
 pub returns : goal.returns
 unfolding result_item

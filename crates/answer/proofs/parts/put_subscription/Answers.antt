@@ -2,7 +2,7 @@
 use mathlib.Core.Bool.{true}
 use native.Mathlib.Omega.{arith}
 use Rattle.avp.proofs.WriteLaws.{head_size_for, appended_then, appended-same, group_ask, appended_group}
-use Rattle.answer.proofs.PartLaws.{number_3gpp, restriction_most, subscription-fours, subscription-most, subscription-item}
+use Rattle.answer.proofs.PartLaws.{number_3gpp, restriction_most, length-ambr, subscription-fours, subscription-item}
 use Rattle.answer.proofs.parts.put_subscription.Goals as goal
 
 pub open_group-start-requires : goal.open_group-start-requires
@@ -31,10 +31,14 @@ put_ambr-requires c =
 
 pub close_group-requires : goal.close_group-requires
 close_group-requires c =
+    let h = head_size_for 10415 true in
     let o = c.open_group-start.ensures in
     let x = c.args.subscription in
-    let m = subscription-most x.restriction x.uplink x.downlink in
-    group_ask 10415 o.start o.opened (appended_then c.put_number.ensures (appended_then c.put_restriction.ensures c.put_ambr.ensures)) (omega arith)
+    let n = rw number_3gpp at c.put_number.ensures.wrote.next in
+    let r = restriction_most x.restriction in
+    let m = length-ambr x.uplink x.downlink in
+    group_ask 10415 o.start o.opened (appended_then c.put_number.ensures (appended_then c.put_restriction.ensures c.put_ambr.ensures))
+    (omega (arith, o.start, o.opened.at, n, c.put_restriction.ensures.wrote.next, c.put_ambr.ensures.wrote.next))
 
 pub returns : goal.returns
 returns c =
