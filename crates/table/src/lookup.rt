@@ -10,7 +10,7 @@ ghost use Rattle.table.specs.Found.{place_of};
 use crate::record;
 
 // The IMSI at the start of `s`, as a number.
-pub(crate) fn imsi_number(s: &[u8]) -> u128
+pub fn imsi_number(s: &[u8]) -> u128
     requires { imsi_size ≤ length s.now }
     ensures { result ≡ num (imsi_of s.now) }
 {

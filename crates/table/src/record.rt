@@ -1,5 +1,5 @@
-// The fields of record `i`, read and stored. A field's place counts from the start of the record; a store leaves every other byte as it is.
-// What is asked everywhere is that record `i` lies inside the buffer, as every record that `find_record` finds does.
+// The fields of a record, read and stored. A field's place counts from the start of the record; a store leaves every other byte as it is.
+// What is asked of record `i` is that it lies inside the buffer, as every record that `find_record` finds does; a `Record` does by itself.
 ghost use Rattle.std.specs.Prelude.{◌≡◌, [], ◌∷◌, ◌+◌, ◌*◌, ◌^◌, ◌≤◌, ◌<◌, length, get_or};
 ghost use Rattle.wire.specs.Number.{be, num_at};
 ghost use Rattle.wire.specs.Put.{part};
@@ -19,7 +19,7 @@ pub fn record_at(i: usize) -> usize
 }
 
 // The records behind the header, each a whole one.
-pub(crate) fn records(t: &[u8]) -> &[[u8; layout::RECORD_SIZE]]
+pub fn records(t: &[u8]) -> &[[u8; layout::RECORD_SIZE]]
     requires { table_header ≤ length t.now }
     ensures { result.now ≡ records_of t.now }
 {
@@ -202,7 +202,7 @@ pub fn downlink(t: &[u8], i: usize) -> u32
     Record::at(t, i).downlink()
 }
 
-// ---- stored
+// ---- stored: by the table and the number of the record, since `store` and its promises are said of the whole table
 
 // The bytes `xs` at `at` of record `i`: every value of a correction.
 pub fn store_bytes(t: &mut [u8], i: usize, at: usize, xs: &[u8])
