@@ -3,7 +3,7 @@
 use mathlib.Core.Path.{◌≡◌, refl, sym, ap, subst, ◌∙◌}
 use mathlib.Core.Bool.{Bool, true, false, ◌&&◌}
 use mathlib.Core.List.{List, []}
-use Prim.Native.Nat.{ℕ, zero, suc, ◌+◌, ◌-◌, ◌*◌, ◌/◌, ◌≤◌, ◌<◌}
+use Prim.Native.Nat.{ℕ, zero, suc, ◌+◌, ◌-◌, ◌*◌, ◌/◌, ◌<◌}
 use native.Mathlib.Numerals.{add-one}
 use native.Mathlib.Omega.{arith}
 use lib.Dec.{ltb}
@@ -18,7 +18,7 @@ use Rattle.wire.specs.Put.{part}
 use Rattle.wire.specs.Stretch.{zeros}
 use Rattle.wire.proofs.ListLaws.{and-true-left, and-true-right}
 use Rattle.paper.specs.Layout.{table_header, record_size, subscription_at, mme_at, sgsn_at}
-use Rattle.paper.specs.Table.{imsi_right, two_bits, plmn_count_right, plmns_right, purged_right, name_right, imei_right, record_right, record_at, record_of, count_of, imsi_of, imsi_number, all_below, ascends, header_right, valid}
+use Rattle.paper.specs.Table.{imsi_right, two_bits, plmn_count_right, plmns_right, purged_right, name_right, imei_right, record_right, record_of, count_of, imsi_of, imsi_number, all_below, ascends, header_right, valid}
 use Rattle.paper.proofs.FieldLaws.{Right, right_parts, right-whole}
 use Rattle.paper.proofs.TableLaws.{Header, all_below_intro, all_below-false}
 use Rattle.table.specs.Records.{records_of}

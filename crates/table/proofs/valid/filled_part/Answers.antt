@@ -1,6 +1,6 @@
 -- `filled_part` meets its contract: between the windows is within the range, then zero.
 -- Assumes nothing.
-use Rattle.std.proofs.Common.{arith, ◌∙◌}
+use Rattle.std.proofs.Common.{arith}
 use Rattle.table.specs.Bounds.{first_of}
 use Rattle.table.proofs.BoundLaws.{lent_window}
 use Rattle.table.proofs.valid.filled_part.Goals as goal
