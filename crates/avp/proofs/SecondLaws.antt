@@ -1,13 +1,12 @@
--- The walk that looks for the first second of a key: what the flags say of the keys that were met, and how a step goes on.
+-- The search for the first second of a key: what the flags say of the keys that were met, and how a step goes on.
 -- Assumes nothing.
 use mathlib.Core.Path.{◌≡◌, refl, sym, ap, ◌∙◌}
 use mathlib.Core.Bool.{Bool, true, false, cond, not, ◌||◌}
-use mathlib.Core.Option.{none, some}
 use mathlib.Core.List.{List, [], ◌∷◌, map}
 use Prim.Native.Nat.{ℕ, zero, suc, ◌+◌, ◌≤◌, ◌<◌}
 use Prim.Native.Nat.compare
 use native.Mathlib.Omega.{arith}
-use lib.ListN.{length, drop, get_or, set, replicate}
+use lib.ListN.{length, get_or, set, replicate}
 use lib.Seq.{get_or-set_same, get_or-set_other}
 use lib.Dec.{eqb, ltb}
 use borrow.Author.Tests.{eqb-true, eqb-false, eq-eqb, ne_eqb, lt-ltb}
@@ -17,16 +16,11 @@ use Rattle.std.proofs.lemmas.List.Quantifiers.{position-Some}
 use Rattle.std.proofs.lemmas.Option.{same_Some}
 use Rattle.dictionary.specs.Rows.{key_of}
 use Rattle.dictionary.specs.declared.Key.{Key}
-use Rattle.paper.specs.Avp.{avp_of}
-use Rattle.paper.specs.Reader.{Avps, placed, avps}
-use Rattle.paper.specs.Find.{member, first_second}
-use Rattle.avp.specs.Step.{key_at, avp_at, step_at}
+use Rattle.paper.specs.Find.{member}
+use Rattle.avp.specs.Step.{key_at}
 use Rattle.avp.specs.Found.{number, index_of}
 use Rattle.avp.specs.declared.cursor.Avp.{Avp}
-use Rattle.avp.specs.declared.cursor.Cursor.{Cursor}
-use Rattle.avp.specs.declared.cursor.Step.{Step}
-use Rattle.avp.specs.declared.cursor.Step.TheVariants.{Item}
-use Rattle.avp.proofs.StepLaws.{avps-item, avps_over, item-avp}
+use Rattle.avp.proofs.WalkLaws.{second_in}
 
 -- ---- the index of a key
 
@@ -91,60 +85,52 @@ says-more keys flags met key at here room says k i e = go (eqb k key) refl
         says k i e
         ∙ sym (get_or-set_other flags at i true false (λ s. eqb-false k key q (index_apart k key keys e (rw s here))))
 
--- ---- the walk
+-- ---- the search
 
--- The walk over `s` stands at `at`: what it looks for is what is left to look for from there, with the keys that the flags say were met.
-pub record Walked (keys : List Key) (s : List ℕ) (flags : List Bool) (at : ℕ) : Type 0 where
+-- The search in the list `all` has come to `rest`: what it looks for is what is left to look for there, with the keys that the flags say were met.
+pub record Walked (keys : List Key) (all : List Avp) (flags : List Bool) (rest : List Avp) : Type 0 where
   pub met : List ℕ
   pub says : (k i : ℕ) → index_of k keys ≡ Some i → member k met ≡ get_or flags i false
-  pub same : first_second (map number keys) [] (avps 0 s) ≡ first_second (map number keys) met (avps (0 + at) (drop at s))
+  pub same : second_in (map number keys) [] all ≡ second_in (map number keys) met rest
 
-pub walked_start : (keys : List Key) (s : List ℕ) (n : ℕ) {at : ℕ} → at ≡ 0 → Walked keys s (replicate n false) at
-walked_start keys s n e = record { met = []; says = says_nothing keys n; same = rw e }
+pub walked_start : (keys : List Key) (n : ℕ) {all rest : List Avp} → rest ≡ all → Walked keys all (replicate n false) rest
+walked_start keys n e = record { met = []; says = says_nothing keys n; same = rw e }
 
-module _ (keys : List Key) (s : List ℕ) (flags : List Bool) (at : ℕ) (w : Walked keys s flags at) where
-  pub second_over : {x : Step} → x ≡ step_at s at → ((a : Avp) (next : Cursor) → x ≡ Item a next → ⊥) → first_second (map number keys) [] (avps 0 s) ≡ none
-  unfolding first_second
-  second_over e n = w.same ∙ avps_over 0 s at e n (first_second (map number keys) w.met) none refl (λ p. refl)
+module _ (keys : List Key) (all : List Avp) (flags : List Bool) {rest : List Avp} (w : Walked keys all flags rest) where
+  pub second_over : rest ≡ [] → second_in (map number keys) [] all ≡ None
+  unfolding second_in
+  second_over e = w.same ∙ ap (second_in (map number keys) w.met) e
 
-  module _ {a : Avp} {next : Cursor} (e : Item a next ≡ step_at s at) where
+  module _ {a : Avp} {next : List Avp} (e : rest ≡ a ∷ next) {k : Key} (own : k ≡ key_at a) where
     abbrev key : ℕ
     key = key_of a.vendor a.code
 
-    key-read : key_of (placed (0 + at) (drop at s)).avp.vendor (placed (0 + at) (drop at s)).avp.code ≡ key
-    unfolding placed avp_of avp_at
-    key-read = ap (λ (b : Avp). key_of b.vendor b.code) (sym (item-avp s at e))
+    second_step : second_in (map number keys) [] all
+        ≡ cond (member key (map number keys)) (cond (member key w.met) (Some a) (second_in (map number keys) (key ∷ w.met) next)) (second_in (map number keys) w.met next)
+    unfolding second_in
+    second_step = w.same ∙ ap (second_in (map number keys) w.met) e
 
-    abbrev rest : Avps
-    rest = avps (0 + next.at) (drop next.at s)
+    index : index_of key keys ≡ index_of (number k) keys
+    index = ap (λ (x : Key). index_of (number x) keys) (sym own)
 
-    second_step : first_second (map number keys) [] (avps 0 s)
-        ≡ cond (member key (map number keys)) (cond (member key w.met) (some (placed (0 + at) (drop at s))) (first_second (map number keys) (key ∷ w.met) rest)) (first_second (map number keys) w.met rest)
-    unfolding first_second
-    second_step = w.same ∙ ap (first_second (map number keys) w.met) (avps-item 0 s at e) ∙ rw key-read
+    -- a key that is not looked for
+    pub second-other : None ≡ index_of (number k) keys → Walked keys all flags next
+    second-other h = record { met = w.met; says = w.says; same = second_step ∙ rw (member_index key keys ∙ ap is_some (index ∙ sym h)) }
 
-    module _ {k : Key} (own : k ≡ key_at a) where
-      index : index_of key keys ≡ index_of (number k) keys
-      index = ap (λ (x : Key). index_of (number x) keys) (sym own)
+    module _ {i : ℕ} (found : Some i ≡ index_of (number k) keys) where
+      here : index_of key keys ≡ Some i
+      here = index ∙ sym found
 
-      -- a key that is not looked for
-      pub second-other : None ≡ index_of (number k) keys → Walked keys s flags next.at
-      second-other h = record { met = w.met; says = w.says; same = second_step ∙ rw (member_index key keys ∙ ap is_some (index ∙ sym h)) }
+      is_key : member key (map number keys) ≡ true
+      is_key = member_index key keys ∙ ap is_some here
 
-      module _ {i : ℕ} (found : Some i ≡ index_of (number k) keys) where
-        here : index_of key keys ≡ Some i
-        here = index ∙ sym found
+      pub second-here : get_or flags i false ≡ true → second_in (map number keys) [] all ≡ Some a
+      second-here t = second_step ∙ rw (is_key, w.says key i here ∙ t)
 
-        is_key : member key (map number keys) ≡ true
-        is_key = member_index key keys ∙ ap is_some here
-
-        pub second-here : get_or flags i false ≡ true → first_second (map number keys) [] (avps 0 s) ≡ some (placed (0 + at) (drop at s))
-        second-here t = second_step ∙ rw (is_key, w.says key i here ∙ t)
-
-        pub second_mark : length keys ≤ length flags → get_or flags i false ≡ false → Walked keys s (set flags i true) next.at
-        second_mark room t =
-            record {
-              met = key ∷ w.met;
-              says = says-more keys flags w.met key i here (let b = index_below key keys here in omega arith) w.says;
-              same = second_step ∙ rw (is_key, w.says key i here ∙ t);
-            }
+      pub second_mark : length keys ≤ length flags → get_or flags i false ≡ false → Walked keys all (set flags i true) next
+      second_mark room t =
+          record {
+            met = key ∷ w.met;
+            says = says-more keys flags w.met key i here (let b = index_below key keys here in omega arith) w.says;
+            same = second_step ∙ rw (is_key, w.says key i here ∙ t);
+          }

@@ -1,9 +1,12 @@
-// A cursor by value over a stretch of AVPs: a step takes the cursor and gives back the AVP and the next cursor.
+// The AVPs of a stretch: step by step, by a cursor that tells where the stretch breaks off, and as an iterator that ends there.
 // Any bytes and any place may be read; nothing bounds the stretch.
 ghost use Rattle.std.specs.Prelude.{◌≡◌, cond, ◌+◌, ◌<◌, ◌≤◌, ◌^◌, length};
 ghost use Rattle.wire.specs.Number.{num_at};
 ghost use Rattle.paper.specs.Avp.{has_v, has_m, head_size, padded};
 ghost use Rattle.avp.specs.Step.{key_at, step_at};
+ghost use Rattle.std.specs.Iterator.{YieldsFirst, item_count};
+ghost use Rattle.paper.specs.Reader.{avps};
+ghost use Rattle.avp.specs.Walk.{items, left};
 ghost use Rattle.avp.specs.Found.{Inside, data_of};
 
 use dictionary::Key;
@@ -20,6 +23,7 @@ pub struct Avp {
     pub end: usize,
 }
 
+// A place of a stretch: a step takes the cursor and gives back the AVP and the next cursor.
 #[derive(Clone, Copy, Debug, PartialEq, Eq)]
 pub struct Cursor {
     pub at: usize,
@@ -141,5 +145,37 @@ impl Cursor {
             },
             next: Cursor { at: at + size },
         }
+    }
+}
+
+// The AVPs of a stretch in their order, up to where it ends or breaks off.
+#[derive(Clone, Debug, Drop)]
+pub struct Avps<'a> {
+    stretch: &'a [u8],
+    at: usize,
+}
+
+impl<'a> Avps<'a> {
+    pub fn new(stretch: &'a [u8]) -> Avps<'a>
+        ensures { left result ≡ items stretch.now (avps 0 stretch.now) }
+    {
+        Avps { stretch, at: 0 }
+    }
+}
+
+impl<'a> Iterator for Avps<'a> {
+    type Item = Avp;
+
+    ghost next_gives = { YieldsFirst left };
+
+    ghost remaining = { item_count left };
+
+    fn next(&mut self) -> Option<Avp> {
+        let cursor = Cursor { at: self.at };
+        let Step::Item { avp, next } = cursor.next(self.stretch) else {
+            return None;
+        };
+        self.at = next.at;
+        Some(avp)
     }
 }

@@ -7,7 +7,7 @@ ghost use Rattle.paper.specs.Find.{first_of, first_second, body_found, origin_ho
 ghost use Rattle.avp.specs.Step.{step_at};
 ghost use Rattle.avp.specs.Found.{number, index_of, found_at, found_by, Noted};
 
-use crate::cursor::{Avp, Cursor, Step};
+use crate::cursor::{Avp, Avps, Cursor, Step};
 use dictionary::Key;
 use paper::keys::ORIGIN_HOST;
 use paper::layout::MESSAGE_HEADER;
@@ -16,14 +16,7 @@ use paper::layout::MESSAGE_HEADER;
 pub fn find(s: &[u8], key: Key) -> Option<Avp>
     ensures { result ≡ found_at s.now (first_of key.vendor key.code (avps 0 s.now)) }
 {
-    let mut c = Cursor::new();
-    while let Step::Item { avp, next } = c.next(s) {
-        if avp.key() == key {
-            return Some(avp);
-        }
-        c = next;
-    }
-    None
+    Avps::new(s).find(|a| a.key() == key)
 }
 
 // The index of the first key that is `key`.
@@ -41,15 +34,13 @@ pub fn first_second(s: &[u8], keys: &[Key]) -> Option<Avp>
     ensures { result ≡ found_at s.now (first_second (map number keys.now) [] (avps 0 s.now)) }
 {
     let mut met = [false; 16];
-    let mut c = Cursor::new();
-    while let Step::Item { avp, next } = c.next(s) {
+    for avp in Avps::new(s) {
         if let Some(i) = index_of(keys, avp.key()) {
             if met[i] {
                 return Some(avp);
             }
             met[i] = true;
         }
-        c = next;
     }
     None
 }
@@ -70,15 +61,13 @@ pub fn first_places(s: &[u8], keys: &[Key]) -> Firsts
 {
     let mut places = [None; 16];
     let mut again = false;
-    let mut c = Cursor::new();
-    while let Step::Item { avp, next } = c.next(s) {
+    for avp in Avps::new(s) {
         if let Some(i) = index_of(keys, avp.key()) {
             match places[i] {
                 None => places[i] = Some(avp.at),
                 Some(_) => again = true,
             }
         }
-        c = next;
     }
     Firsts { again, places }
 }
