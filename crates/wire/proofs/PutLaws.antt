@@ -141,10 +141,6 @@ put_front p x xs l h = rw (take-suc l p 0, append_assoc) (set_at (take p l) _ _ 
 pub put_one : (p x : ℕ) (l : List ℕ) → p < length l → set l p x ≡ put p (x ∷ []) l
 put_one p x l h = ap (λ (m : List ℕ). set m p x) (sym (put-nil (suc p) l)) ∙ put_front p x [] l h
 
--- behind what was put
-pub put-more : (at x : ℕ) (xs l : List ℕ) → at + length xs < length l → set (put at xs l) (at + length xs) x ≡ put at (xs ++ (x ∷ [])) l
-put-more at x xs l h = put_one (at + length xs) x (put at xs l) (rw (length-put at xs l (omega arith)) h) ∙ put-put at xs (x ∷ []) l (omega arith)
-
 -- ---- the contract of the writers
 
 -- a writer that writes a part of the slice, whole
@@ -188,12 +184,6 @@ read_back at n v l h hv =
     ∙ ap (λ (k : ℕ). num (part at k (put at (be n v) l))) (sym (length-be n v))
     ∙ ap num (part-put at (be n v) l (omega arith))
     ∙ num_back n v hv
-
-pub read_back_u32 : (at v : ℕ) (l : List ℕ) → at + 4 ≤ length l → v < 2 ^ 32 → num_at 4 (put at (be 4 v) l) at ≡ v
-read_back_u32 at v l h hv = read_back at 4 v l h hv
-
-pub read_back_u64 : (at v : ℕ) (l : List ℕ) → at + 8 ≤ length l → v < 2 ^ 64 → num_at 8 (put at (be 8 v) l) at ≡ v
-read_back_u64 at v l h hv = read_back at 8 v l h hv
 
 pub bytes-put : (at : ℕ) (xs l : List ℕ) → Bytes xs → Bytes l → Bytes (put at xs l)
 unfolding put
