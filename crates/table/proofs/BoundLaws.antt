@@ -5,9 +5,9 @@ use mathlib.Core.Bool.{true, ◌&&◌}
 use mathlib.Core.List.{List, ◌++◌}
 use Prim.Native.Nat.{ℕ, ◌+◌, ◌-◌, ◌≤◌}
 use native.Mathlib.Omega.{arith}
-use lib.ListN.{length, take, drop, replicate, length-replicate, replicate-append-replicate}
-use lib.Seq.{take_at, drop_at}
+use lib.ListN.{length, take, drop, replicate, length-replicate}
 use Rattle.std.specs.List.{flat_map}
+use Rattle.std.proofs.lemmas.List.{take-replicate, drop-replicate}
 use Rattle.wire.specs.Number.{Bytes}
 use Rattle.wire.specs.Put.{part}
 use Rattle.wire.specs.Stretch.{all_in, between, zeros}
@@ -23,16 +23,6 @@ pub flat-halves : (v : ℕ) → flat_map (λ x. x) (halves v) ≡ bound v
 unfolding bound
 flat-halves v = refl
 
-take_same : (k m v : ℕ) → k ≤ m → take k (replicate m v) ≡ replicate k v
-take_same k m v h =
-    let e : k + (m - k) ≡ m = omega arith in
-    ap (λ (n : ℕ). take k (replicate n v)) (sym e) ∙ ap (take k) (sym (replicate-append-replicate {A = ℕ} k (m - k) v)) ∙ take_at (replicate k v) (replicate (m - k) v) k (length-replicate k v)
-
-drop-same : (k m v : ℕ) → k ≤ m → drop k (replicate m v) ≡ replicate (m - k) v
-drop-same k m v h =
-    let e : k + (m - k) ≡ m = omega arith in
-    ap (λ (n : ℕ). drop k (replicate n v)) (sym e) ∙ ap (drop k) (sym (replicate-append-replicate {A = ℕ} k (m - k) v)) ∙ drop_at (replicate k v) (replicate (m - k) v) k (length-replicate k v)
-
 -- `n` before the middle: `n` times the bound, then zeros
 window : (v n m : ℕ) → n ≤ half → m ≤ half → part (half - n) (n + m) (bound v) ≡ replicate n v ++ replicate m 0
 unfolding bound
@@ -42,8 +32,8 @@ window v n m h k =
     let e : half - (half - n) ≡ n = omega arith in
     let f : half - n + n ≡ half + 0 = omega arith in
     let front : part (half - n) n (a ++ z) ≡ replicate n v =
-    part-append-left (half - n) n a z (omega arith) ∙ ap (take n) (drop-same (half - n) half v (omega arith)) ∙ ap (λ (q : ℕ). take n (replicate q v)) e ∙ take_same n n v (omega arith) in
-    let back : part (half - n + n) m (a ++ z) ≡ replicate m 0 = ap (λ (q : ℕ). part q m (a ++ z)) f ∙ part-append-right 0 m a z ∙ take_same m half 0 k in
+    part-append-left (half - n) n a z (omega arith) ∙ ap (take n) (drop-replicate (half - n) half v) ∙ ap (λ (q : ℕ). take n (replicate q v)) e ∙ take-replicate n n v (omega arith) in
+    let back : part (half - n + n) m (a ++ z) ≡ replicate m 0 = ap (λ (q : ℕ). part q m (a ++ z)) f ∙ part-append-right 0 m a z ∙ take-replicate m half 0 k in
     part-split (half - n) n m (a ++ z) ∙ rw (front, back)
 
 between-filled : (l h n m : ℕ) (s s' : List ℕ) → length s ≡ n → length s' ≡ m
