@@ -49,7 +49,7 @@ fn unknown(mandatory: bool, at: usize, end: usize) -> Visit
     }
 }
 
-// Reads the AVPs of `s`; `left` groups may still be entered, one in another.
+// Reads the AVPs of `s`; `left` groups may still be entered, one in another. By the cursor: where `s` breaks off the iterator of its AVPs only ends.
 #[cycle(visit_avp_visit_list)]
 pub fn visit_list(s: &[u8], base: usize, left: usize) -> Visit
     requires { base + length s.now < 2 ^ 64 }
@@ -98,9 +98,7 @@ fn visit_avp(s: &[u8], a: Avp, base: usize, left: usize) -> Visit
                     end,
                 };
             }
-            let from = a.start;
-            let to = a.end;
-            visit_list(&s[from..to], base + from, left - 1)
+            visit_list(a.data(s), base + a.start, left - 1)
         }
     }
 }

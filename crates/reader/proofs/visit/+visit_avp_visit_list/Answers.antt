@@ -1,16 +1,14 @@
 -- The proof of the cycle of calls {visit_avp, visit_list}, which Invariants.antt measures. Assumes nothing.
-use Rattle.std.proofs.Common.{arith, refl, sym, ◌∙◌, ⊎_elim, length-drop}
-use lib.ListN.{length-take}
+use Rattle.std.proofs.Common.{arith, refl, sym, ap, ◌+◌, ◌-◌, ◌∙◌, ⊎_elim}
 use Rattle.dictionary.specs.declared.Kind.TheVariants.{Four, Eight, Any, Closed}
+use Rattle.dictionary.specs.Rows.{kind_of}
 use Rattle.avp.proofs.StepLaws.{bad_place, bad_inside, item_falls}
+use Rattle.reader.specs.Visit.{told_of}
 use Rattle.reader.proofs.VisitLaws.{item-read, told_start, told-end, told_bad, told-turn, kind-looked, avp-unknown, avp_deep, avp-group, avp-sized}
 use Rattle.reader.proofs.visit.+visit_avp_visit_list.Goals as goal
 
 pub visit_avp-returns-then-left-eq0 : goal.visit_avp-returns-then-left-eq0
 visit_avp-returns-then-left-eq0 t c = sym (avp_deep _ _ _ _ _ c.requires.1 c.if-left-eq0.true (kind-looked c.args.a c.key.ensures c.in-Group.ensures))
-
-pub visit_avp-visit_list-requires : goal.visit_avp-visit_list-requires
-visit_avp-visit_list-requires t c = (omega arith, simp (length-take, length-drop) (omega arith))
 
 pub visit_avp-returns-in-Unknown : goal.visit_avp-returns-in-Unknown
 visit_avp-returns-in-Unknown t c = avp-unknown _ _ _ _ _ c.requires.1 c.has_m.ensures c.unknown.ensures (kind-looked c.args.a c.key.ensures c.in-Unknown.ensures)
@@ -29,7 +27,7 @@ pub visit_avp-returns-in-Eight : goal.visit_avp-returns-in-Eight
 visit_avp-returns-in-Eight t c = c.sized-in-Eight.ensures ∙ sym (avp-sized _ _ _ _ _ c.requires.1 Eight refl (kind-looked c.args.a c.key.ensures c.in-Eight.ensures))
 
 pub visit_avp-returns-else-left-eq0 : goal.visit_avp-returns-else-left-eq0
-visit_avp-returns-else-left-eq0 t c = c.visit_list.ensures ∙ sym (avp-group _ _ _ _ _ c.requires.1 (omega arith) (kind-looked c.args.a c.key.ensures c.in-Group.ensures))
+visit_avp-returns-else-left-eq0 t c = c.visit_list.ensures ∙ ap (told_of kind_of (c.args.left - 1) (c.args.base + c.args.a.start)) c.data.ensures ∙ sym (avp-group _ _ _ _ _ c.requires.1 (omega arith) (kind-looked c.args.a c.key.ensures c.in-Group.ensures))
 
 pub visit_list-loop-told-init : goal.visit_list-loop-told-init
 visit_list-loop-told-init t c = told_start _ _ _ _ _ c.new-c.ensures
