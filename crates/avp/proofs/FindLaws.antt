@@ -64,12 +64,9 @@ pub found_nothing : (s : List ℕ) (f : Option Placed) → None ≡ found_at s f
 found_nothing s none e = refl
 found_nothing s (some p) e = absurd (none-some (avp_at s p.at) e)
 
--- the data of what was found, and none where nothing was
+-- the data of what was found
 pub found-body : (s : List ℕ) {a : Avp} (vendor code : ℕ) → Some a ≡ found_at s (first_of vendor code (avps 0 s)) → data_of s a ≡ body_found (first_of vendor code (avps 0 s))
 found-body s vendor code e = lies-body (found-lies s vendor code e)
-
-pub no_body : (s : List ℕ) (vendor code : ℕ) → None ≡ found_at s (first_of vendor code (avps 0 s)) → [] ≡ body_found (first_of vendor code (avps 0 s))
-no_body s vendor code e = sym (ap body_found (found_nothing s (first_of vendor code (avps 0 s)) e))
 
 -- ---- the same, where the stretch stands at `base` of the message
 

@@ -28,7 +28,7 @@ use Rattle.avp.specs.Found.{number, index_of, found_at, found_by, place_of, Note
 use Rattle.avp.specs.declared.cursor.Avp.{Avp}
 use Rattle.avp.proofs.FindLaws.{found_nothing}
 use Rattle.avp.proofs.WalkLaws.{keyed, find-first, second_in, second-first}
-use Rattle.avp.proofs.SecondLaws.{index_apart, index_below, Walked, walked_start, second_over, second-other, second_mark}
+use Rattle.avp.proofs.SecondLaws.{get_or-same, index_apart, index_below, Walked, walked_start, second_over, second-other, second_mark}
 
 -- ---- keys
 
@@ -68,18 +68,13 @@ pub record Noting (keys : List Key) (all : List Avp) (places : List (Option ℕ)
   pub first : (vendor code i : ℕ) → code < 4294967296 → index_of (key_of vendor code) keys ≡ Some i
       → place (find (keyed vendor code) all) ≡ option_or (get_or places i None) (place (find (keyed vendor code) rest))
 
-nothing_there : (n i : ℕ) → get_or {A = Option ℕ} (replicate n None) i None ≡ None
-nothing_there zero i = refl
-nothing_there (suc n) zero = refl
-nothing_there (suc n) (suc i) = nothing_there n i
-
 pub noting_start : (keys : List Key) (n : ℕ) {all rest : List Avp} → rest ≡ all → length keys ≤ n → Noting keys all (replicate n None) rest
 noting_start keys n {rest} e h =
     record {
       long = rw (length-replicate {A = Option ℕ} n None) h;
       first = λ vendor code i k m.
           ap (λ (l : List Avp). place (find (keyed vendor code) l)) (sym e)
-          ∙ sym (ap (λ (p : Option ℕ). option_or p (place (find (keyed vendor code) rest))) (nothing_there n i));
+          ∙ sym (ap (λ (p : Option ℕ). option_or p (place (find (keyed vendor code) rest))) (get_or-same {A = Option ℕ} n i None));
     }
 
 module _ (keys : List Key) (all : List Avp) (places : List (Option ℕ)) {rest : List Avp} (w : Noting keys all places rest) where

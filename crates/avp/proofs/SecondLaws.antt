@@ -62,14 +62,15 @@ member_index k keys = among keys ∙ sym (answers (ltb (position_or_len (λ x. e
 abbrev Says : List Key → List Bool → List ℕ → Type 0
 Says keys flags met = (k i : ℕ) → index_of k keys ≡ Some i → member k met ≡ get_or flags i false
 
-get_d_default : (n i : ℕ) → get_or (replicate n false) i false ≡ false
-get_d_default zero i = refl
-get_d_default (suc n) zero = refl
-get_d_default (suc n) (suc i) = get_d_default n i
+-- a list of one value reads as that value everywhere
+pub get_or-same : {A : Type 0} (n i : ℕ) (d : A) → get_or (replicate n d) i d ≡ d
+get_or-same zero i d = refl
+get_or-same (suc n) zero d = refl
+get_or-same (suc n) (suc i) d = get_or-same n i d
 
 says_nothing : (keys : List Key) (n : ℕ) → Says keys (replicate n false) []
 unfolding member
-says_nothing keys n k i e = sym (get_d_default n i)
+says_nothing keys n k i e = sym (get_or-same n i false)
 
 -- one more key that is met
 says-more : (keys : List Key) (flags : List Bool) (met : List ℕ) (key at : ℕ) → index_of key keys ≡ Some at → at < length flags → Says keys flags met

@@ -46,7 +46,7 @@ pub fn first_second(s: &[u8], keys: &[Key]) -> Option<Avp>
 }
 
 // Where the first AVP of each of some keys stands, by the index of the key.
-#[derive(Clone, Copy)]
+#[derive(Clone, Copy, Debug, PartialEq, Eq)]
 pub struct Firsts {
     // A key was met twice.
     pub again: bool,

@@ -8,9 +8,3 @@ pub get-requires : goal.get-requires
 get-requires c =
     let h = head_with_v c.args.flags (sym c.has_v.ensures ∙ c.if-has_v.true) in
     omega arith
-
-pub returns-then-has_v : goal.returns-then-has_v
-returns-then-has_v c = rw (sym c.has_v.ensures ∙ c.if-has_v.true) c.get.ensures.value
-
-pub returns-else-has_v : goal.returns-else-has_v
-returns-else-has_v c = rw (sym c.has_v.ensures ∙ c.if-has_v.false)
