@@ -1,10 +1,10 @@
--- Laws of what is copied from the request: Session-Id by what was found, the Proxy-Infos step by step of the cursor, and the AVPs behind the header.
+-- Laws of what is copied from the request: Session-Id by what was found, the Proxy-Infos by the list that a walk gives, and the AVPs behind the header.
 -- Assumes nothing.
 use mathlib.Core.Path.{◌≡◌, refl, sym, ap, ◌∙◌}
 use mathlib.Core.Bool.{Bool, true, false, cond, ◌&&◌, and_comm}
 use mathlib.Core.Option.{Option, none, some, map}
-use mathlib.Core.List.{List, [], ◌++◌, append_assoc, append-nil}
-use Prim.Native.Nat.{ℕ, ◌+◌, ◌-◌, ◌≤◌}
+use mathlib.Core.List.{List, [], ◌∷◌, ◌++◌, append_assoc, append-nil}
+use Prim.Native.Nat.{ℕ, ◌-◌, ◌≤◌}
 use native.Mathlib.Omega.{arith}
 use lib.ListN.{length, take, drop, length-append, length-take, length-drop}
 use lib.Seq.{take-length}
@@ -18,16 +18,15 @@ use Rattle.paper.specs.Profile.{session_id, proxy_info}
 use Rattle.paper.specs.Request.{avps_of, find}
 use Rattle.paper.specs.Answer.{item, echoed, each_of}
 use Rattle.std.specs.Prelude.{Some, None}
-use Rattle.avp.specs.Step.{avp_at, step_at, key_at}
-use Rattle.avp.specs.Found.{found_at, data_of}
+use Rattle.paper.proofs.AvpsLaws.{Each, Stands, Breaks, stands_avp, avps_stand}
+use Rattle.avp.specs.Walk.{items}
+use Rattle.avp.specs.Step.{avp_at, key_at}
+use Rattle.avp.specs.Found.{found_at, Inside, data_of}
 use Rattle.avp.specs.declared.cursor.Avp.{Avp}
-use Rattle.avp.specs.declared.cursor.Cursor.{Cursor}
-use Rattle.avp.specs.declared.cursor.Step.{Step}
-use Rattle.avp.specs.declared.cursor.Step.TheVariants.{Item}
 use Rattle.avp.specs.Written.{Room, Appended}
 use Rattle.avp.specs.declared.write.Writer.{Writer}
 use Rattle.avp.proofs.WriteLaws.{appended_then, appended-same, room_behind, appended_nothing}
-use Rattle.avp.proofs.StepLaws.{avps_over, avps-item, item-avp, data_at}
+use Rattle.avp.proofs.StepLaws.{inside-at, data_at}
 use Rattle.avp.proofs.FindLaws.{found-lies, found_nothing}
 use Rattle.avp.proofs.MovedLaws.{move_by, moved, avps_moved, first_of_based}
 use Rattle.answer.specs.Parts.{copied, session_echo, proxy_echo}
@@ -69,42 +68,62 @@ module _ {w w' : Writer} {all rest : List ℕ} where
 pub copied_none : (w : Writer) {all rest : List ℕ} → Room w (length all) → all ≡ rest → Copied w all rest w
 copied_none w r e = record { done = []; split = e; wrote = appended_nothing w (omega arith) }
 
--- the Proxy-Infos from a place on
-abbrev pub from : List ℕ → ℕ → List ℕ
-from s at = each_of proxy_info (avps (0 + at) (drop at s))
+-- the Proxy-Infos in the list that a walk gives
+abbrev pub copies : List ℕ → List Avp → List ℕ
+copies s [] = []
+copies s (a ∷ rest) = copied s a ++ copies s rest
 
-pub from_start : (s : List ℕ) {at : ℕ} → at ≡ 0 → each_of proxy_info (avps 0 s) ≡ from s at
-from_start s e = rw e
+-- each AVP of the list lies inside
+abbrev pub AllInside : List ℕ → List Avp → Type 0
+AllInside s [] = Unit {0}
+AllInside s (a ∷ rest) = Inside s a × AllInside s rest
 
-module _ (s : List ℕ) (at : ℕ) where
-  -- no more AVPs
-  pub from_last : {x : Step} → x ≡ step_at s at → ((a : Avp) (next : Cursor) → x ≡ Item a next → ⊥) → from s at ≡ []
-  unfolding each_of
-  from_last e h = avps_over 0 s at e h (each_of proxy_info) [] refl (λ p. refl)
+module _ (s : List ℕ) where
+  abbrev Standing : Avps → Type 0
+  Standing l = Each (Stands 0 s) (Breaks 0 s) l
 
-  module _ {a : Avp} {next : Cursor} (e : Item a next ≡ step_at s at) where
-    item-key : has_key 0 284 (avp_of (drop at s)) ≡ eqb a.vendor 0 && eqb a.code 284
-    unfolding has_key avp_of avp_at
-    item-key = ap (λ (b : Avp). eqb b.vendor 0 && eqb b.code 284) (sym (item-avp s at e))
+  items_inside : (l : Avps) → Standing l → AllInside s (items s l)
+  unfolding items
+  items_inside whole t = tt
+  items_inside (broken p) t = tt
+  items_inside (more p rest) t = let z : p.at - 0 ≡ p.at = omega arith in (inside-at s p.at (rw z at t.0.right), items_inside rest t.1)
 
-    item-body : (avp_of (drop at s)).body ≡ data_of s a
-    unfolding avp_of
-    item-body = sym (ap (data_of s) (item-avp s at e) ∙ data_at s at)
+  copied-each : (p : Placed) → Stands 0 s p → copied s (avp_at s p.at) ≡ cond (has_key 0 284 p.avp) (item proxy_info p.avp.body) []
+  unfolding copied has_key avp_at avp_of
+  copied-each p t = let z : p.at - 0 ≡ p.at = omega arith in rw (stands_avp 0 s p t, z) (ap (λ (x : List ℕ). cond (has_key 0 284 (avp_of (drop p.at s))) (item proxy_info x) []) (data_at s p.at))
 
-    -- an AVP and all behind it
-    pub from_item : from s at ≡ copied s a ++ from s next.at
-    unfolding each_of placed copied
-    from_item = ap (each_of proxy_info) (avps-item 0 s at e) ∙ rw (item-key, item-body) (go (eqb a.vendor 0 && eqb a.code 284))
-      where
-        go : (b : Bool) → cond b (item proxy_info (data_of s a) ++ from s next.at) (from s next.at) ≡ cond b (item proxy_info (data_of s a)) [] ++ from s next.at
-        go true = refl
-        go false = refl
+  items_copies : (l : Avps) → Standing l → copies s (items s l) ≡ each_of proxy_info l
+  unfolding items each_of
+  items_copies whole t = refl
+  items_copies (broken p) t = refl
+  items_copies (more p rest) t = rw (copied-each p t.0, items_copies rest t.1) (go (has_key 0 284 p.avp))
+    where
+      go : (b : Bool) → cond b (item proxy_info p.avp.body) [] ++ each_of proxy_info rest ≡ cond b (item proxy_info p.avp.body ++ each_of proxy_info rest) (each_of proxy_info rest)
+      go true = refl
+      go false = refl
+
+  module _ {l : List Avp} (e : l ≡ items s (avps 0 s)) where
+    pub all_copies : each_of proxy_info (avps 0 s) ≡ copies s l
+    all_copies = sym (ap (copies s) e ∙ items_copies (avps 0 s) (avps_stand 0 s))
+
+    pub all_inside : AllInside s l
+    all_inside = rw e (items_inside (avps 0 s) (avps_stand 0 s))
+
+  module _ {a : Avp} {l rest : List Avp} (e : l ≡ a ∷ rest) where
+    pub first_copied : copies s l ≡ copied s a ++ copies s rest
+    first_copied = ap (copies s) e
+
+    pub inside : AllInside s l → Inside s a × AllInside s rest
+    inside i = rw e at i
 
     -- there is room for what is copied of an AVP
-    pub room_for_item : {w w' : Writer} {all : List ℕ} → Room w (length all) → Copied w all (from s at) w' → Room w' (length (copied s a))
+    pub room_for_item : {w w' : Writer} {all : List ℕ} → Room w (length all) → Copied w all (copies s l) w' → Room w' (length (copied s a))
     room_for_item r c =
-        let n = ap length from_item ∙ length-append (copied s a) (from s next.at) in
+        let n = ap length first_copied ∙ length-append (copied s a) (copies s rest) in
         omega (arith, copied-room r c)
+
+pub no_copies : (s : List ℕ) {l : List Avp} → l ≡ [] → copies s l ≡ []
+no_copies s e = ap (copies s) e
 
 -- ---- the AVPs behind the header
 

@@ -9,7 +9,7 @@ ghost use Rattle.avp.specs.Found.{Inside};
 ghost use Rattle.avp.specs.Written.{Room, Appended};
 ghost use Rattle.answer.specs.Parts.{copied};
 
-use avp::cursor::{Avp, Cursor, Step};
+use avp::cursor::{Avp, Avps};
 use avp::find::find;
 use avp::write::Writer;
 use paper::keys::{PROXY_INFO, SESSION_ID};
@@ -39,9 +39,7 @@ pub fn put_proxy_infos(out: &mut Writer<'_>, s: &[u8])
     requires { (length s.now < 16777200) × Room out.old (length (each_of proxy_info (avps 0 s.now))) }
     ensures { Appended out.old (each_of proxy_info (avps 0 s.now)) out.new }
 {
-    let mut c = Cursor::new();
-    while let Step::Item { avp, next } = c.next(s) {
-        put_if_proxy_info(out, s, avp);
-        c = next;
+    for a in Avps::new(s) {
+        put_if_proxy_info(out, s, a);
     }
 }

@@ -1,24 +1,24 @@
--- `answer::echo::put_proxy_infos` meets its contract. The loop's invariant: what was written and the Proxy-Infos from the cursor on are all of them;
--- the measure is what is left of the stretch. Assumes nothing.
-use Rattle.avp.proofs.StepLaws.{item_falls, item-inside}
-use Rattle.answer.proofs.EchoLaws.{copied_none, copied_more, copied_all, room_for_item, from_start, from_last, from_item}
+-- `answer::echo::put_proxy_infos` meets its contract. The loop's invariant: what was written and the Proxy-Infos that the walk has left are all of them.
+-- Assumes nothing.
+use mathlib.Core.Path.{ap, ◌∙◌}
+use Rattle.avp.specs.Walk.{left}
+use Rattle.answer.proofs.EchoLaws.{copied_none, copied_more, copied_all, room_for_item, all_copies, all_inside, first_copied, inside, no_copies}
 use Rattle.answer.proofs.echo.put_proxy_infos.Goals as goal
 
-pub loop-avp-init : goal.loop-avp-init
-loop-avp-init c = copied_none _ c.requires.1 (from_start _ c.new-c.ensures)
-
-pub returns : goal.returns
-returns c = copied_all (from_last _ _ c.next.ensures c.in_default.not-Item) c.loop-avp.invariant
+pub loop-a-init : goal.loop-a-init
+loop-a-init c =
+    let e = ap left c.into_iter-a-iterator.ensures.into_iter_gives ∙ c.new-a-items.ensures in
+    (copied_none _ c.requires.1 (all_copies _ e), all_inside _ e)
 
 pub put_if_proxy_info-requires : goal.put_if_proxy_info-requires
 put_if_proxy_info-requires c =
-    let e = c.in-Item.ensures in
-    (c.requires.0, item-inside _ _ e, room_for_item c.args.s.now c.loop-avp.c.at e c.requires.1 c.loop-avp.invariant)
+    let e = c.in-Some.ensures.steps in
+    (c.requires.0, (inside _ e c.loop-a.invariant.1).0, room_for_item _ e c.requires.1 c.loop-a.invariant.0)
 
-pub loop-avp-smaller : goal.loop-avp-smaller
-loop-avp-smaller c =
-    item_falls _ _ c.in-Item.ensures
+pub loop-a-preserved : goal.loop-a-preserved
+loop-a-preserved c =
+    let e = c.in-Some.ensures.steps in
+    (copied_more (first_copied _ e) c.loop-a.invariant.0 c.put_if_proxy_info.ensures, (inside _ e c.loop-a.invariant.1).1)
 
-pub loop-avp-preserved : goal.loop-avp-preserved
-loop-avp-preserved c =
-    copied_more (from_item _ _ c.in-Item.ensures) c.loop-avp.invariant c.put_if_proxy_info.ensures
+pub returns : goal.returns
+returns c = copied_all (no_copies _ c.in-None.ensures.steps.0) c.loop-a.invariant.0
