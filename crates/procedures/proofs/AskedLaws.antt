@@ -18,7 +18,6 @@ use Rattle.paper.specs.Profile.{ulr, pur, nor, rat_type, visited_plmn_id, ulr_fl
 use Rattle.paper.specs.Reader.{Placed, or_else}
 use Rattle.paper.specs.Request.{command_code, avps_of, find, value_of, number_of, is_there, imei_of}
 use Rattle.paper.specs.Table.{record_of, mme, sgsn}
-use Rattle.paper.specs.Fields.{store_imei}
 use Rattle.paper.specs.Asked.{flags_key, flags_in, asked_of, imei_in}
 use Rattle.paper.specs.declared.Asked.{Asked}
 use Rattle.paper.proofs.GivenLaws.{flags-given}

@@ -1,10 +1,10 @@
 -- The list of nodes as the code writes it: an entry or nothing for a node, then zeros.
 -- Assumes nothing.
-use mathlib.Core.Path.{◌≡◌, refl, sym, ap, ◌∙◌, subst}
+use mathlib.Core.Path.{◌≡◌, sym, ap, ◌∙◌, subst}
 use mathlib.Core.Bool.{true, false, and-false}
 use mathlib.Core.Option as paper
 use mathlib.Core.List.{List, [], ◌++◌, append-nil}
-use Prim.Native.Nat.{ℕ, ◌+◌, ◌-◌, ◌≤◌}
+use Prim.Native.Nat.{ℕ, ◌-◌, ◌≤◌}
 use native.Mathlib.Omega.{arith}
 use lib.Dec.{ltb}
 use lib.ListN.{length, get_or, replicate, length-append}
@@ -12,7 +12,7 @@ use borrow.Author.Tests.{lt-ltb}
 use Rattle.std.specs.Prelude.{Option, Some, None}
 use Rattle.wire.specs.Put.{put, Wrote}
 use Rattle.wire.proofs.PutLaws.{wrote_then, wrote-same}
-use Rattle.paper.specs.Layout.{record_size, entry_size, most_entries, cancel_size}
+use Rattle.paper.specs.Layout.{entry_size, most_entries, cancel_size}
 use Rattle.paper.specs.Table as Table
 use Rattle.paper.specs.Table.{record_right, name_of}
 use Rattle.paper.specs.Procedures.{Entry, same_name, listed, cancel_list, entry_bytes, cancel_bytes}

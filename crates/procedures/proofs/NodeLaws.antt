@@ -1,9 +1,9 @@
 -- A node of a record of a valid table: where its name stands, what clears it; and what a command leaves of the table.
 -- Assumes nothing.
-use mathlib.Core.Path.{◌≡◌, refl, sym, ap, ◌∙◌, subst}
-use mathlib.Core.Bool.{Bool, true, false, cond, ◌&&◌}
+use mathlib.Core.Path.{◌≡◌, refl, sym, ◌∙◌, subst}
+use mathlib.Core.Bool.{Bool, true, cond, ◌&&◌}
 use mathlib.Core.Option as paper
-use mathlib.Core.List.{List, [], ◌++◌}
+use mathlib.Core.List.{List, ◌++◌}
 use Prim.Native.Nat.{ℕ, ◌+◌, ◌≤◌, ◌<◌}
 use native.Mathlib.Omega.{arith}
 use lib.ListN.{length, get_or}
@@ -13,7 +13,7 @@ use Rattle.paper.specs.Layout.{record_size, most_name, most_entries}
 use Rattle.paper.specs.Request.{is_name}
 use Rattle.paper.specs.Table as Table
 use Rattle.paper.specs.Table.{record_right, record_at, record_of, sgsn, name_of}
-use Rattle.paper.specs.Fields.{purged_of, store_node}
+use Rattle.paper.specs.Fields.{purged_of}
 use Rattle.paper.specs.Procedures.{registered, register, clear, listed, cancelled, cancel_list, updated, located, purges, purged_if, notified, cancel_bytes}
 use Rattle.paper.proofs.FieldLaws as Field
 use Rattle.paper.proofs.FieldLaws.{the_mme, the_sgsn, slot_inside, name-size, purged-size}

@@ -68,7 +68,8 @@ fn store_imei_if(t: &mut [u8], i: usize, imei: Option<&[u8]>)
 fn other_type(flags: UlrFlags) -> Option<CancellationType>
     ensures { type_of result ≡ other_type (bit 1 flags.0) (bit 0 flags.0) (bit 5 flags.0) }
 {
-    if flags.on_s6a() & flags.single_registration() {
+    let obeyed = flags.on_s6a() & flags.single_registration();
+    if obeyed {
         return Some(CancellationType::SgsnUpdate);
     }
     if flags.initial_attach() {

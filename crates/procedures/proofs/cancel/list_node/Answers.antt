@@ -1,7 +1,6 @@
 -- `procedures::cancel::list_node` meets its contract. Nothing is written for a node that is not registered and for the sender, an entry for any other.
 -- Assumes nothing.
-use mathlib.Core.Path.{sym, ap, ◌∙◌}
-use native.Mathlib.Omega.{arith}
+use mathlib.Core.Path.{sym, ◌∙◌}
 use lib.ListN.{length}
 use borrow.Author.Tests.{eqb-true, eqb-false}
 use Rattle.wire.proofs.PutLaws.{wrote_nothing, wrote-same}

@@ -5,17 +5,17 @@ use Rattle.paper.specs.Avp.{bit}
 use Rattle.procedures.proofs.VerdictLaws.{type-single, type_initial, type_none}
 use Rattle.procedures.proofs.carry.other_type.Goals as goal
 
-pub returns-then-on_s6a-single_registration : goal.returns-then-on_s6a-single_registration
-returns-then-on_s6a-single_registration c =
+pub returns-then-obeyed : goal.returns-then-obeyed
+returns-then-obeyed c =
     let f = c.args.flags.0 in
-    type-single (bit 1 f) (bit 0 f) (bit 5 f) c.on_s6a.ensures c.single_registration.ensures c.if-on_s6a-single_registration.true
+    type-single (bit 1 f) (bit 0 f) (bit 5 f) c.on_s6a.ensures c.single_registration.ensures c.if-obeyed.true
 
 pub returns-then-initial_attach : goal.returns-then-initial_attach
 returns-then-initial_attach c =
     let f = c.args.flags.0 in
-    type_initial (bit 1 f) (bit 0 f) (bit 5 f) c.on_s6a.ensures c.single_registration.ensures c.if-on_s6a-single_registration.false (sym c.initial_attach.ensures ∙ c.if-initial_attach.true)
+    type_initial (bit 1 f) (bit 0 f) (bit 5 f) c.on_s6a.ensures c.single_registration.ensures c.if-obeyed.false (sym c.initial_attach.ensures ∙ c.if-initial_attach.true)
 
 pub returns : goal.returns
 returns c =
     let f = c.args.flags.0 in
-    type_none (bit 1 f) (bit 0 f) (bit 5 f) c.on_s6a.ensures c.single_registration.ensures c.if-on_s6a-single_registration.false (sym c.initial_attach.ensures ∙ c.if-initial_attach.false)
+    type_none (bit 1 f) (bit 0 f) (bit 5 f) c.on_s6a.ensures c.single_registration.ensures c.if-obeyed.false (sym c.initial_attach.ensures ∙ c.if-initial_attach.false)

@@ -1,7 +1,5 @@
 -- `procedures::carry::store_imei_if` meets its contract. An IMEI of 14 or 15 digits fits its field.
 -- Assumes nothing.
-use Rattle.std.specs.Prelude.{IfSome, option_copied}
-use Rattle.paper.specs.Request.{imei_digits}
 use Rattle.paper.proofs.FieldLaws.{imei-size}
 use Rattle.paper.proofs.ProcedureLaws.{imei-sizes}
 use Rattle.procedures.proofs.NodeLaws.{held_inside}

@@ -1,6 +1,5 @@
 -- `procedures::verdict::plmn_refused` meets its contract. At most 8 PLMNs are asked for, one after another.
 -- Assumes nothing.
-use mathlib.Core.Path.{◌∙◌}
 use Prim.Native.Nat.{◌≤◌}
 use native.Mathlib.Omega.{arith}
 use Rattle.std.proofs.Common.{rules, tests}
