@@ -98,7 +98,8 @@ fn visit_avp(s: &[u8], a: Avp, base: usize, left: usize) -> Visit
                     end,
                 };
             }
-            visit_list(a.data(s), base + a.start, left - 1)
+            let inside = a.data(s);
+            visit_list(inside, base + a.start, left - 1)
         }
     }
 }

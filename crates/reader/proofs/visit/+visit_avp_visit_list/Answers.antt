@@ -27,7 +27,7 @@ pub visit_avp-returns-in-Eight : goal.visit_avp-returns-in-Eight
 visit_avp-returns-in-Eight t c = c.sized-in-Eight.ensures ∙ sym (avp-sized _ _ _ _ _ c.requires.1 Eight refl (kind-looked c.args.a c.key.ensures c.in-Eight.ensures))
 
 pub visit_avp-returns-else-left-eq0 : goal.visit_avp-returns-else-left-eq0
-visit_avp-returns-else-left-eq0 t c = c.visit_list.ensures ∙ ap (told_of kind_of (c.args.left - 1) (c.args.base + c.args.a.start)) c.data.ensures ∙ sym (avp-group _ _ _ _ _ c.requires.1 (omega arith) (kind-looked c.args.a c.key.ensures c.in-Group.ensures))
+visit_avp-returns-else-left-eq0 t c = c.visit_list.ensures ∙ ap (told_of kind_of (c.args.left - 1) (c.args.base + c.args.a.start)) c.data-inside.ensures ∙ sym (avp-group _ _ _ _ _ c.requires.1 (omega arith) (kind-looked c.args.a c.key.ensures c.in-Group.ensures))
 
 pub visit_list-loop-told-init : goal.visit_list-loop-told-init
 visit_list-loop-told-init t c = told_start _ _ _ _ _ c.new-c.ensures
