@@ -15,12 +15,14 @@ use Rattle.paper.specs.Avp.{bit}
 use Rattle.paper.specs.Find.{body_found}
 use Rattle.paper.specs.Layout.{most_entries}
 use Rattle.paper.specs.Profile.{ulr, pur, nor, rat_type, visited_plmn_id, ulr_flags, pur_flags, nor_flags}
-use Rattle.paper.specs.Reader.{Placed, or_else}
+use Rattle.paper.specs.Reader.{Placed}
 use Rattle.paper.specs.Request.{command_code, avps_of, find, value_of, number_of, is_there, imei_of}
 use Rattle.paper.specs.Table.{record_of, mme, sgsn}
 use Rattle.paper.specs.Asked.{flags_key, flags_in, asked_of, imei_in}
 use Rattle.paper.specs.declared.Asked.{Asked}
 use Rattle.paper.proofs.GivenLaws.{flags-given}
+use Rattle.paper.proofs.ProcedureLaws.{imei-entries}
+use Rattle.paper.proofs.ViewLaws.{or_else-right}
 use Rattle.paper.specs.Procedures.{Done, sender, code_if, stranger, experimental, with_imei, other_type, updated, located, update_location, purges, purged, purge_ue, notified, notify, carried_out, cancel_bytes}
 use Rattle.procedures.specs.Values.{refused_update, stored_if, Did, Carried, Purged}
 
@@ -78,15 +80,11 @@ module _ (m : List ℕ) (a : Asked) (e : a ≡ asked_of m) where
 
   -- ---- the ruling
 
-  or_none : (x : Option ℕ) → or_else x none ≡ x
-  or_none none = refl
-  or_none (some n) = refl
-
   pub ruled_update : {x : Option ℕ} {w : ℕ} (plmn r : List ℕ) → w ≡ unwrap_or a.flags 0 → a.command ≡ ulr → plmn ≡ value_of visited_plmn_id m → x ≡ refused_update w a.rat plmn r → x ≡ experimental m r
   unfolding refused_update experimental
   ruled_update plmn r f h p q =
       q
-      ∙ rw (f ∙ ulr-flags h, rat_asked, p, is-command ulr h, other-command ulr nor h (λ z. omega arith), or_none)
+      ∙ rw (f ∙ ulr-flags h, rat_asked, p, is-command ulr h, other-command ulr nor h (λ z. omega arith), or_else-right)
 
   pub ruled-stranger : {x : Option ℕ} (host r : List ℕ) → a.command ≡ nor → host ≡ sender m → x ≡ code_if (stranger host r) 5423 → x ≡ experimental m r
   unfolding experimental
@@ -102,11 +100,6 @@ module _ (m : List ℕ) (a : Asked) (e : a ≡ asked_of m) where
   unfolding with_imei
   imei-table none i d = refl
   imei-table (some x) i d = refl
-
-  imei-entries : (p : Option Placed) (i : ℕ) (d : Done) → (with_imei p i d).entries ≡ d.entries
-  unfolding with_imei
-  imei-entries none i d = refl
-  imei-entries (some x) i d = refl
 
   imei-purges : (p : Option Placed) (i : ℕ) (d : Done) → (with_imei p i d).purges ≡ d.purges
   unfolding with_imei

@@ -1,14 +1,15 @@
 -- A node of a record of a valid table: where its name stands, what clears it; and what a command leaves of the table.
 -- Assumes nothing.
 use mathlib.Core.Path.{◌≡◌, refl, sym, ◌∙◌, subst}
-use mathlib.Core.Bool.{Bool, true, cond, ◌&&◌}
+use mathlib.Core.Bool.{Bool, true, cond, ◌&&◌, ◌||◌, not}
 use mathlib.Core.Option as paper
 use mathlib.Core.List.{List, ◌++◌}
 use Prim.Native.Nat.{ℕ, ◌+◌, ◌≤◌, ◌<◌}
 use native.Mathlib.Omega.{arith}
 use lib.ListN.{length, get_or}
-use Rattle.std.specs.Prelude.{Option, Some, None, is_some}
+use Rattle.std.specs.Prelude.{Option, Some, None, is_some, unwrap_or, MatchOption}
 use Rattle.wire.specs.Put.{put}
+use Rattle.paper.specs.Avp.{bit}
 use Rattle.paper.specs.Layout.{record_size, most_name, most_entries}
 use Rattle.paper.specs.Request.{is_name}
 use Rattle.paper.specs.Table as Table
@@ -51,6 +52,11 @@ pub cleared-is : (slot : Table.Slot) (how : Option CancellationType) (r : List �
 unfolding clears
 cleared-is slot None r = refl
 cleared-is slot (Some kind) r = refl
+
+-- PUR-Flags tell of bit `k`: where there are none, of each
+pub told-is : (flags : Option ℕ) (k : ℕ) {told : Bool} → MatchOption flags (told ≡ true) (λ word. told ≡ bit k word) → told ≡ not (is_some flags) || bit k (unwrap_or flags 0)
+told-is None k h = h
+told-is (Some word) k h = h
 
 pub cancelled_if : (slot : Table.Slot) (type : paper.Option ℕ) (r : List ℕ) (i : ℕ) (t : List ℕ) → cond (clears slot type r) (clear slot i t) t ≡ cancelled slot type r i t
 unfolding clears cancelled

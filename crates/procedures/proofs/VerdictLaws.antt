@@ -1,7 +1,7 @@
 -- The tests of the Experimental results, as the code goes about them.
 -- Assumes nothing.
 use mathlib.Core.Path.{◌≡◌, refl, sym, ap, ◌∙◌}
-use mathlib.Core.Bool.{Bool, true, false, cond, ◌&&◌, ◌||◌, not, and-false}
+use mathlib.Core.Bool.{Bool, true, false, cond, ◌&&◌, ◌||◌, not, and-false, or-false}
 use mathlib.Core.Logic.{◌⊎◌, inl, inr, ⊎_elim}
 use mathlib.Core.Option.{Option, none, some}
 use mathlib.Core.List.{List}
@@ -11,6 +11,7 @@ use lib.Dec.{ltb, leb}
 use lib.ListN.{length, get_or}
 use borrow.Author.Tests.{ltb-true, lt-ltb, le-ltb}
 use Rattle.std.proofs.Common.{add-zero, zero-add}
+use Rattle.std.proofs.Math.Bool.{or_assoc}
 use Rattle.std.specs.Prelude as Got
 use denote.Ref.{Bor}
 use Rattle.std.specs.Slice.{IsItemAt}
@@ -70,20 +71,12 @@ module _ (rat restriction : ℕ) where
 
 -- ---- the PLMNs
 
-or_assoc : (x y z : Bool) → x || (y || z) ≡ (x || y) || z
-or_assoc true y z = refl
-or_assoc false y z = refl
-
-or_false : (x : Bool) → x || false ≡ x
-or_false true = refl
-or_false false = refl
-
 any_more : (f : ℕ → Bool) (a n : ℕ) → list_any f (range_with_len a (suc n)) ≡ list_any f (range_with_len a n) || f (a + n)
-any_more f a zero = or_false (f a) ∙ ap f (sym (add-zero a))
+any_more f a zero = or-false (f a) ∙ ap f (sym (add-zero a))
 any_more f a (suc n) =
     let k : a + 1 + n ≡ a + suc n = omega arith in
     ap (λ b. f a || b) (any_more f (a + 1) n ∙ ap (λ j. list_any f (range_with_len (a + 1) n) || f j) k)
-    ∙ or_assoc (f a) (list_any f (range_with_len (a + 1) n)) (f (a + suc n))
+    ∙ sym (or_assoc (f a) (list_any f (range_with_len (a + 1) n)) (f (a + suc n)))
 
 module _ (plmn r : List ℕ) where
   -- PLMN `j` of the record is this one

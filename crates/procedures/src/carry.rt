@@ -117,10 +117,8 @@ fn update_location(t: &mut [u8], i: usize, flags: UlrFlags, host: &[u8], cancel:
 fn is_purged(subscriber: Subscriber, node: Node, host: &[u8], flags: Option<u32>) -> bool
     ensures { result ≡ purges (slot_of node) host.now (is_some flags) (unwrap_or flags 0) (bytes_of subscriber.entry) }
 {
-    let told = match flags {
-        None => true,
-        Some(word) => bit_of(word, node.purge_bit() as u32),
-    };
+    let bit = node.purge_bit() as u32;
+    let told = flags.is_none_or(|word| bit_of(word, bit));
     subscriber.is_sender(node, host) & told
 }
 
