@@ -24,6 +24,7 @@ struct Range<'a> {
     ghost high_bounds: { high.now ≡ halves (first_of high.now) },
 }
 
+// References, so that nothing is made at a call: what they refer to stands among the program's constants.
 const DIGITS: Range = Range {
     low: &[[b'0'; HALF], [0; HALF]],
     high: &[[b'9'; HALF], [0; HALF]],
