@@ -1,7 +1,7 @@
 -- The records behind the header one by one: each is `record_of`, and what is told of all of them is what 01 says of a table.
 -- Assumes nothing.
 use mathlib.Core.Path.{◌≡◌, refl, sym, ap, subst, ◌∙◌}
-use mathlib.Core.Bool.{Bool, true, false, ◌&&◌}
+use mathlib.Core.Bool.{Bool, true, false, ◌&&◌, and_assoc, and_comm, and-true}
 use mathlib.Core.List.{List, []}
 use Prim.Native.Nat.{ℕ, zero, suc, ◌+◌, ◌-◌, ◌*◌, ◌/◌, ◌<◌}
 use native.Mathlib.Numerals.{add-one}
@@ -12,14 +12,11 @@ use lib.Seq.{drop-drop}
 use Rattle.std.specs.Bool.{MatchBool}
 use Rattle.std.specs.List.{AllWithin, HoldsAt, IsAllAdjacentAnswer, AllAdjacentBelow}
 use Rattle.std.specs.Simd.{first_chunks}
-use Rattle.std.proofs.lemmas.Bool.Decides.{same_from_decides}
 use Rattle.wire.specs.Number.{num}
 use Rattle.wire.specs.Put.{part}
 use Rattle.wire.specs.Stretch.{zeros}
-use Rattle.wire.proofs.ListLaws.{and-true-left, and-true-right}
 use Rattle.paper.specs.Layout.{table_header, record_size, subscription_at, mme_at, sgsn_at}
-use Rattle.paper.specs.Table.{imsi_right, two_bits, plmn_count_right, plmns_right, purged_right, name_right, imei_right, record_right, record_of, count_of, imsi_of, imsi_number, all_below, ascends, header_right, valid}
-use Rattle.paper.proofs.FieldLaws.{Right, right_parts, right-whole}
+use Rattle.paper.specs.Table.{imsi_right, two_bits, plmn_count_right, plmns_right, purged_right, name_right, imei_right, rules, all_hold, record_right, record_of, count_of, imsi_of, imsi_number, all_below, ascends, header_right, valid}
 use Rattle.paper.proofs.TableLaws.{Header, all_below_intro, all_below-false}
 use Rattle.table.specs.Records.{records_of}
 
@@ -98,49 +95,22 @@ module _ (t : List ℕ) (h : header_right t ≡ true) {a : Bool} (told : a ≡ a
   unfolding valid
   not_valid wrong = rw h (not_asked (all_below (ascends t) (count_of t)) told wrong refl)
 
--- ---- the rules of one record, as the code joins them: the fields with a count first
-
-both : (a b : Bool) → a && b ≡ true → (a ≡ true) × (b ≡ true)
-both a b e = (and-true-left a b e, and-true-right a b e)
+-- ---- the rules of one record, as the code joins them: one after the other, the count of the PLMNs with the PLMNs
 
 abbrev pub joined : List ℕ → Bool
 joined r =
-    (((((((((((imsi_right r && (plmn_count_right r && plmns_right r)) && name_right mme_at r) && name_right sgsn_at r) && imei_right r) && two_bits subscription_at r) && zeros (part 21 3 r)) && zeros (part 29 3 r)) && purged_right r) && zeros (part 57 7 r))
-    && zeros (part 194 2 r))
+    (((((((((((imsi_right r && two_bits subscription_at r) && zeros (part 21 3 r)) && (plmn_count_right r && plmns_right r)) && zeros (part 29 3 r)) && purged_right r) && zeros (part 57 7 r)) && name_right mme_at r) && name_right sgsn_at r) && zeros (part 194 2 r)) && imei_right r)
     && zeros (part 220 36 r))
 
-joined_parts : (r : List ℕ) → joined r ≡ true → Right r
-joined_parts r e =
-    let a = both _ _ e in
-    let b = both _ _ a.0 in
-    let c = both _ _ b.0 in
-    let d = both _ _ c.0 in
-    let f = both _ _ d.0 in
-    let g = both _ _ f.0 in
-    let h = both _ _ g.0 in
-    let i = both _ _ h.0 in
-    let j = both _ _ i.0 in
-    let k = both _ _ j.0 in
-    let l = both _ _ k.0 in
-    let m = both _ _ l.1 in
-    record {
-      imsi = l.0;
-      subscription = h.1;
-      unlisted_21 = g.1;
-      plmn_count = m.0;
-      unlisted_29 = f.1;
-      plmns = m.1;
-      purged = d.1;
-      unlisted_57 = c.1;
-      mme_name = k.1;
-      sgsn_name = j.1;
-      unlisted_194 = b.1;
-      imei = i.1;
-      unlisted_220 = a.1;
-    }
-
-joined-whole : (r : List ℕ) → Right r → joined r ≡ true
-joined-whole r p = rw (p.imsi, p.subscription, p.unlisted_21, p.plmn_count, p.unlisted_29, p.plmns, p.purged, p.unlisted_57, p.mme_name, p.sgsn_name, p.unlisted_194, p.imei, p.unlisted_220) refl
+-- what stands behind the PLMNs goes before them
+moved : (x p q d : Bool) → (x && (p && q)) && d ≡ ((x && p) && d) && q
+moved true true q d = and_comm q d
+moved true false q d = refl
+moved false p q d = refl
 
 pub joined_rules : (r : List ℕ) → joined r ≡ record_right r
-joined_rules r = same_from_decides (joined r) (record_right r) (joined_parts r, joined-whole r) (right_parts r, right-whole r)
+unfolding record_right all_hold rules
+joined_rules r =
+    ap (λ (b : Bool). ((((((b && purged_right r) && zeros (part 57 7 r)) && name_right mme_at r) && name_right sgsn_at r) && zeros (part 194 2 r)) && imei_right r) && zeros (part 220 36 r))
+    (moved ((imsi_right r && two_bits subscription_at r) && zeros (part 21 3 r)) (plmn_count_right r) (plmns_right r) (zeros (part 29 3 r)))
+    ∙ simp (and_assoc, and-true)

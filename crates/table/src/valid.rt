@@ -110,23 +110,22 @@ fn right_purged(r: &[u8; RECORD_SIZE]) -> bool
         & ((b / 2 % 2 != 1) | (0 < r[layout::SGSN_AT]))
 }
 
-// Between two fields with a count the test may be left, so that the wide loops stay apart.
+// The rules in the order of document 01. Between two of them the test may be left, so that the wide loops stay apart.
 fn right_record(r: &[u8; RECORD_SIZE]) -> bool
     ensures { result ≡ record_right r.now }
 {
-    let fields = right_imsi(r)
+    let right = right_imsi(r)
+        && r[layout::SUBSCRIPTION_AT] < 4
+        && unlisted(r, 21, 3)
         && right_plmns(r)
+        && unlisted(r, 29, 3)
+        && right_purged(r)
+        && unlisted(r, 57, 7)
         && right_counted(r, layout::MME_AT, layout::MOST_NAME, NAMES)
         && right_counted(r, layout::SGSN_AT, layout::MOST_NAME, NAMES)
+        && unlisted(r, 194, 2)
         && right_imei(r);
-    fields
-        & (r[layout::SUBSCRIPTION_AT] < 4)
-        & unlisted(r, 21, 3)
-        & unlisted(r, 29, 3)
-        & right_purged(r)
-        & unlisted(r, 57, 7)
-        & unlisted(r, 194, 2)
-        & unlisted(r, 220, 36)
+    right & unlisted(r, 220, 36)
 }
 
 fn right_header(t: &[u8]) -> bool
