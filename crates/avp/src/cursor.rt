@@ -44,14 +44,14 @@ pub enum Step {
 pub fn has_v(flags: u8) -> bool
     ensures { result ≡ has_v flags }
 {
-    flags / 128 % 2 == 1
+    flags & 128 != 0
 }
 
 // The AVP is mandatory.
 pub fn has_m(flags: u8) -> bool
     ensures { result ≡ has_m flags }
 {
-    flags / 64 % 2 == 1
+    flags & 64 != 0
 }
 
 pub fn head_size(flags: u8) -> usize
@@ -65,7 +65,7 @@ pub fn with_padding(n: usize) -> usize
     requires { n < 2 ^ 32 }
     ensures { result ≡ padded n }
 {
-    (n + 3) / 4 * 4
+    n.next_multiple_of(4)
 }
 
 // The vendor of the AVP at `at` with these flags, whose header lies inside the stretch.
