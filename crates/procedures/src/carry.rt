@@ -9,7 +9,7 @@ ghost use Rattle.paper.specs.Procedures.{sender, register, clear, code_if, other
 ghost use Rattle.procedures.specs.Values.{slot_of, other_of, update_of, type_number, type_of, bytes_of, Held, clears, stored_if, Did, Purged, Carried};
 
 use crate::cancel::{CancellationType, list_notified, list_updated, no_entries};
-use crate::flags::{NorFlags, UlrFlags, bit_of};
+use crate::flags::{Flags, bit_of};
 use crate::nodes::Node;
 use crate::subscriber::Subscriber;
 use paper::Asked;
@@ -65,7 +65,7 @@ fn store_imei_if(t: &mut [u8], i: usize, imei: Option<&[u8]>)
 // ---- ULR
 
 // "Single-Registration lists it with type 1, else Initial-Attach lists it with type 4"; on S6d "Single-Registration has no effect".
-fn other_type(flags: UlrFlags) -> Option<CancellationType>
+fn other_type(flags: Flags) -> Option<CancellationType>
     ensures { type_of result ≡ other_type (bit 1 flags.0) (bit 0 flags.0) (bit 5 flags.0) }
 {
     let obeyed = flags.on_s6a() & flags.single_registration();
@@ -99,7 +99,7 @@ fn update_node(
 }
 
 // "ULR on S6a: [..] Cancellation-Type 0"; "On S6d, for the SGSN: type 1".
-fn update_location(t: &mut [u8], i: usize, flags: UlrFlags, host: &[u8], cancel: &mut [u8])
+fn update_location(t: &mut [u8], i: usize, flags: Flags, host: &[u8], cancel: &mut [u8])
     requires { (Held t.old i) × (is_name host.now ≡ true) × (cancel_size ≤ length cancel.old) }
     ensures { Did (located (bit 1 flags.0) (other_type (bit 1 flags.0) (bit 0 flags.0) (bit 5 flags.0)) host.now (record_of t.old i) i t.old) cancel.old t.new cancel.new }
 {
@@ -145,7 +145,7 @@ fn purge_ue(t: &mut [u8], i: usize, host: &[u8], flags: Option<u32>) -> u32
 // ---- NOR
 
 // Single-Registration of NOR-Flags.
-fn notified_type(flags: NorFlags) -> Option<CancellationType>
+fn notified_type(flags: Flags) -> Option<CancellationType>
     ensures { type_of result ≡ code_if (bit 0 flags.0) 1 }
 {
     if flags.single_registration() {
@@ -156,7 +156,7 @@ fn notified_type(flags: NorFlags) -> Option<CancellationType>
 }
 
 // "Single-Registration lists a registered SGSN with type 1 (unless it is the sender) and clears it."
-fn notify(t: &mut [u8], i: usize, flags: NorFlags, host: &[u8], cancel: &mut [u8])
+fn notify(t: &mut [u8], i: usize, flags: Flags, host: &[u8], cancel: &mut [u8])
     requires { (Held t.old i) × (cancel_size ≤ length cancel.old) }
     ensures { Did (notified (code_if (bit 0 flags.0) 1) host.now (record_of t.old i) i t.old) cancel.old t.new cancel.new }
 {
@@ -183,7 +183,7 @@ pub fn carry_out(
 {
     match asked.command {
         ULR => {
-            update_location(t, i, UlrFlags::of(asked.flags), host, cancel);
+            update_location(t, i, Flags::of(asked.flags), host, cancel);
             store_imei_if(t, i, imei);
             0
         }
@@ -192,7 +192,7 @@ pub fn carry_out(
             purge_ue(t, i, host, asked.flags)
         }
         _ => {
-            notify(t, i, NorFlags::of(asked.flags), host, cancel);
+            notify(t, i, Flags::of(asked.flags), host, cancel);
             store_imei_if(t, i, imei);
             0
         }

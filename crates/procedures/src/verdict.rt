@@ -8,7 +8,7 @@ ghost use Rattle.paper.specs.Asked.{asked_of};
 ghost use Rattle.paper.specs.Procedures.{sender, unsubscribed, rat_refused, plmn_refused, stranger, experimental, code_if};
 ghost use Rattle.procedures.specs.Values.{Held, bytes_of, bit_of_rat, code_of, refused_update};
 
-use crate::flags::{UlrFlags, bit_of};
+use crate::flags::{Flags, bit_of};
 use crate::nodes::Node;
 use crate::subscriber::Subscriber;
 use paper::profile::{NOR, ULR};
@@ -67,15 +67,16 @@ fn refuse_if(applies: bool, code: u32) -> Result<(), ExperimentalCode>
     ensures { code_of result ≡ code_if applies code }
 {
     if applies {
-        return Err(ExperimentalCode(code));
+        Err(ExperimentalCode(code))
+    } else {
+        Ok(())
     }
-    Ok(())
 }
 
 // What refuses a ULR.
 fn update_verdict(
     subscriber: Subscriber,
-    flags: UlrFlags,
+    flags: Flags,
     rat: u32,
     plmn: &[u8],
 ) -> Result<(), ExperimentalCode>
@@ -99,7 +100,7 @@ pub fn verdict(
 {
     let subscriber = Subscriber::at(t, i);
     match asked.command {
-        ULR => update_verdict(subscriber, UlrFlags::of(asked.flags), asked.rat, plmn),
+        ULR => update_verdict(subscriber, Flags::of(asked.flags), asked.rat, plmn),
         NOR => refuse_if(is_stranger(subscriber, host), 5423),
         _ => Ok(()),
     }
