@@ -19,7 +19,7 @@ pub fn find(s: &[u8], key: Key) -> Option<Avp>
     Avps::new(s).find(|a| a.key() == key)
 }
 
-// The index of the first key that is `key`.
+// The index of the first key that is `key`: by number, as the paper counts keys, since `==` would not tell that each code of the list fits its half.
 pub fn index_of(keys: &[Key], key: Key) -> Option<usize>
     ensures index { result ≡ index_of (number key) keys.now }
     ensures code_bound { key.code < 4294967296 }
@@ -84,6 +84,7 @@ fn found_at(s: &[u8], at: usize) -> Option<Avp>
 }
 
 // The first AVP of a key: by its place where the key is one of those that were noted, else by a walk.
+// Keys and places come apart: who holds the places has the keys as a static, so that a value with both would be no plainer.
 pub fn find_noted(s: &[u8], keys: &[Key], places: &[Option<usize>], key: Key) -> Option<Avp>
     requires { Noted s.now keys.now places.now }
     ensures { result ≡ found_at s.now (first_of key.vendor key.code (avps 0 s.now)) }
