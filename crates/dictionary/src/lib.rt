@@ -22,8 +22,7 @@ pub enum Kind {
     Group,
     // a group that is not entered: Failed-AVP, Proxy-Info
     Closed,
-    // no row has the key; a case beside the five and no `Option` around them: paper's `by_kind`, `blank`, `left_of` and `empty_of` and the promise `unknown_added`
-    // (docs/PROMISES.md) speak of six, and the visit matches them once
+    // no row has the key; no `Option` around five kinds, since paper's `by_kind`, `blank`, `empty_of` and the promise `unknown_added` (docs/PROMISES.md) speak of six
     Unknown,
 }
 

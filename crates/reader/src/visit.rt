@@ -49,7 +49,7 @@ fn unknown(mandatory: bool, at: usize, end: usize) -> Visit
     }
 }
 
-// Reads the AVPs of `s`; `left` groups may still be entered, one in another. By the cursor: where `s` breaks off the iterator of its AVPs only ends.
+// Reads the AVPs of `s`; `left` groups may still be entered, one in another. By the cursor: `told_of` says where `s` breaks off, and avp's iterator only ends there.
 #[cycle(visit_avp_visit_list)]
 pub fn visit_list(s: &[u8], base: usize, left: usize) -> Visit
     requires { base + length s.now < 2 ^ 64 }
