@@ -3,10 +3,10 @@
 use mathlib.Core.Path.{◌≡◌, refl, sym, ap, ◌∙◌}
 use mathlib.Core.Bool.{Bool, true, false, cond, ◌&&◌, and_comm}
 use mathlib.Core.Option.{Option, none, some, map}
-use mathlib.Core.List.{List, [], ◌∷◌, ◌++◌, append_assoc, append-nil}
+use mathlib.Core.List.{List, [], ◌∷◌, ◌++◌, append_assoc}
 use Prim.Native.Nat.{ℕ, ◌-◌, ◌≤◌}
 use native.Mathlib.Omega.{arith}
-use lib.ListN.{length, take, drop, length-append, length-take, length-drop}
+use lib.ListN.{length, take, drop, length-take, length-drop}
 use lib.Seq.{take-length}
 use lib.Dec.{eqb}
 use Rattle.paper.specs.Avp.{avp_of}
@@ -25,7 +25,7 @@ use Rattle.avp.specs.Found.{found_at, Inside, data_of}
 use Rattle.avp.specs.declared.cursor.Avp.{Avp}
 use Rattle.avp.specs.Written.{Room, Appended}
 use Rattle.avp.specs.declared.write.Writer.{Writer}
-use Rattle.avp.proofs.WriteLaws.{appended_then, appended-same, room_behind, appended_nothing}
+use Rattle.avp.proofs.WriteLaws.{appended_then, appended_nothing}
 use Rattle.avp.proofs.StepLaws.{inside-at, data_at}
 use Rattle.avp.proofs.FindLaws.{found-lies, found_nothing}
 use Rattle.avp.proofs.MovedLaws.{move_by, moved, avps_moved, first_of_based}
@@ -56,14 +56,6 @@ module _ {w w' : Writer} {all rest : List ℕ} where
   pub copied_more : {xs rest' : List ℕ} {w'' : Writer} → rest ≡ xs ++ rest' → Copied w all rest w' → Appended w' xs w'' → Copied w all rest' w''
   copied_more {xs} {rest'} e c p =
       record { done = c.done ++ xs; split = c.split ∙ ap (λ (r : List ℕ). c.done ++ r) e ∙ sym (append_assoc c.done xs rest'); wrote = appended_then c.wrote p }
-
-  -- the end
-  pub copied_all : rest ≡ [] → Copied w all rest w' → Appended w all w'
-  copied_all e c = appended-same (sym (c.split ∙ rw (e, append-nil))) c.wrote
-
-  -- there is room for what is left
-  pub copied-room : Room w (length all) → Copied w all rest w' → Room w' (length rest)
-  copied-room r c = room_behind (length rest) c.wrote (let n = ap length c.split ∙ length-append c.done rest in omega arith)
 
 pub copied_none : (w : Writer) {all rest : List ℕ} → Room w (length all) → all ≡ rest → Copied w all rest w
 copied_none w r e = record { done = []; split = e; wrote = appended_nothing w (omega arith) }
@@ -115,15 +107,6 @@ module _ (s : List ℕ) where
 
     pub inside : AllInside s l → Inside s a × AllInside s rest
     inside i = rw e at i
-
-    -- there is room for what is copied of an AVP
-    pub room_for_item : {w w' : Writer} {all : List ℕ} → Room w (length all) → Copied w all (copies s l) w' → Room w' (length (copied s a))
-    room_for_item r c =
-        let n = ap length first_copied ∙ length-append (copied s a) (copies s rest) in
-        omega (arith, copied-room r c)
-
-pub no_copies : (s : List ℕ) {l : List Avp} → l ≡ [] → copies s l ≡ []
-no_copies s e = ap (copies s) e
 
 -- ---- the AVPs behind the header
 

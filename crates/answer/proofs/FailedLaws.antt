@@ -19,7 +19,7 @@ use Rattle.paper.specs.ShownIn.{LiesIn, ShownIn}
 use Rattle.paper.specs.declared.Failed.{Failed}
 use Rattle.paper.specs.declared.Failed.TheVariants.{Whole, Bare, Missing}
 use Rattle.dictionary.specs.declared.Key.{Key}
-use Rattle.paper.proofs.AvpLaws.{framed-least, framed-sizes, padded-least, padded-most, head_size-least, head_size-most, padded-fours}
+use Rattle.paper.proofs.AvpLaws.{framed-least, framed-sizes, padded-least, padded-most, head_size-most, padded-fours}
 use Rattle.paper.proofs.AvpsLaws.{size-read}
 use Rattle.paper.proofs.WrittenLaws.{length_as_received}
 use Rattle.avp.specs.Step.{step_at, key_at}
@@ -50,9 +50,6 @@ module _ (m : List ℕ) {f : Failed} where
 
   pub readable-whole : {at to : ℕ} → f ≡ Whole at to → ShownIn m (Some f) → LiesIn m at to × (framed (stretch m at to) ≡ true)
   readable-whole e r = rw e at r
-
-  pub readable-bare : {at to : ℕ} → f ≡ Bare at to → ShownIn m (Some f) → LiesIn m at to
-  readable-bare e r = rw e at r
 
 -- ---- the AVP at the front of a stretch
 
@@ -108,12 +105,6 @@ pub shown-fours : (o : Math.Option Avp) → length (shown_bytes o) % 4 ≡ 0
 unfolding shown_bytes
 shown-fours none = refl
 shown-fours (some a) = rw (length_as_received a) (padded-fours (head_size a.flags + length a.body))
-
-shown_takes : (a : Avp) → 8 ≤ length (as_received a)
-shown_takes a =
-    let h = head_size-least a.flags in
-    let p = padded-least (head_size a.flags + length a.body) in
-    rw (length_as_received a) (omega arith)
 
 module _ (m : List ℕ) {o : Option Failed} where
   -- nothing is shown: no Failed-AVP

@@ -1,8 +1,8 @@
 -- Laws of the parts that do not come from the request: sizes of numbers and headers, groups by their parts, verdicts and the AVPs of a success by their cases.
 -- Assumes nothing.
-use mathlib.Core.Path.{◌≡◌, refl, sym, ◌∙◌}
+use mathlib.Core.Path.{◌≡◌, refl}
 use mathlib.Core.Bool.{Bool, true, false, cond}
-use mathlib.Core.List.{List, [], ◌++◌, append-nil}
+use mathlib.Core.List.{List, [], ◌++◌}
 use Prim.Native.Nat.{ℕ, ◌+◌, ◌%◌, ◌≤◌}
 use native.Mathlib.Omega.{arith}
 use lib.ListN.{length, length-append}
@@ -11,20 +11,19 @@ use Rattle.std.specs.Prelude.{Option, Some, None}
 use borrow.Author.Tests.{eq-eqb, ne_eqb}
 use Rattle.wire.specs.Number.{be}
 use Rattle.paper.specs.Avp.{head_size, padded, flags_for, vendor_field, as_received, written}
-use Rattle.paper.specs.Profile.{Key, auth_session_state, origin_host, origin_realm, result_code, access_restriction_data, subscription_data, subscriber_status, ula_flags, pua_flags}
+use Rattle.paper.specs.Profile.{Key, result_code, access_restriction_data, subscription_data, subscriber_status, ula_flags, pua_flags}
 use Rattle.paper.specs.Answer.{item, number_item, result_item, restriction_item, subscription_of}
 use Rattle.paper.specs.Shown.{verdict_of, subscription_in, extra_of}
 use Rattle.paper.specs.declared.ResultCode.{ResultCode}
-use Rattle.paper.specs.declared.ExperimentalCode.{ExperimentalCode}
 use Rattle.paper.specs.declared.Verdict.{Verdict}
-use Rattle.paper.specs.declared.Verdict.TheVariants.{Base, Experimental}
+use Rattle.paper.specs.declared.Verdict.TheVariants.{Base}
 use Rattle.paper.specs.declared.Extra.{Extra}
 use Rattle.paper.specs.declared.Extra.TheVariants.{Ula, Pua}
 use Rattle.paper.specs.declared.Subscription.{Subscription}
 use Rattle.paper.proofs.AvpLaws.{padded-least}
 use Rattle.paper.proofs.AnswerParts.{item-fours, fours-add, length-number}
 use Rattle.avp.proofs.WriteLaws.{length-written}
-use Rattle.answer.specs.Parts.{own_items, ambr_item, ula_items}
+use Rattle.answer.specs.Parts.{ambr_item, ula_items}
 
 -- ---- sizes
 
@@ -58,9 +57,6 @@ pair-fours x y a b = rw (length-append (number_item x a) (number_item y b)) (fou
 pub result-base : {v : Verdict} {code : ResultCode} → v ≡ Base code → number_item result_code code.0 ≡ result_item (verdict_of v)
 unfolding result_item
 result-base e = rw e
-
-pub result-experimental : {v : Verdict} {code : ExperimentalCode} → v ≡ Experimental code → result_item (verdict_of (Experimental code)) ≡ result_item (verdict_of v)
-result-experimental e = rw e
 
 -- ---- the AVPs of a success
 
@@ -127,20 +123,9 @@ extra_pua e f = rw (e, f)
 pub length_ula : (o : Option Subscription) → length (ula_items o) ≡ 16 + length (subscription_in o)
 length_ula o = rw (length-append (number_item ula_flags 1), number_3gpp 1406 1)
 
-module _ {o : Option Subscription} where
-  pub ula_skipped : o ≡ None → number_item ula_flags 1 ≡ ula_items o
-  ula_skipped e = rw e (sym (append-nil (number_item ula_flags 1)))
+module _ {o : Option Subscription} {s : Subscription} (e : o ≡ Some s) where
+  pub ula_whole : number_item ula_flags 1 ++ subscription_in (Some s) ≡ ula_items o
+  ula_whole = rw e
 
-  module _ {s : Subscription} (e : o ≡ Some s) where
-    pub ula_whole : number_item ula_flags 1 ++ subscription_in (Some s) ≡ ula_items o
-    ula_whole = rw e
-
-    pub ula_room : 88 ≤ length (ula_items o)
-    ula_room = let l = subscription-least s.restriction s.uplink s.downlink in rw (e, length_ula) (omega arith)
-
--- ---- the own AVPs
-
-pub length-own : (host realm : List ℕ) → length (own_items host realm) ≡ 12 + ((8 + padded (length host)) + (8 + padded (length realm)))
-length-own host realm =
-    length-append (number_item auth_session_state 1) (item origin_host host ++ item origin_realm realm)
-    ∙ rw (number-base 277 1, length-append (item origin_host host) (item origin_realm realm), length-written 0 264 true host, length-written 0 296 true realm)
+  pub ula_room : 88 ≤ length (ula_items o)
+  ula_room = let l = subscription-least s.restriction s.uplink s.downlink in rw (e, length_ula) (omega arith)

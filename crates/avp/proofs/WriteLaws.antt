@@ -104,9 +104,6 @@ pub received_for : (vendor code : ℕ) (mandatory : Bool) (body : List ℕ) {fla
 unfolding written
 received_for vendor code mandatory body e = ap (λ (f : ℕ). received code f vendor body) e
 
-pub head_for : (vendor code n : ℕ) {flags : ℕ} → flags ≡ flags_for vendor true → head_bytes code flags vendor n ≡ group_head vendor code n
-head_for vendor code n e = ap (λ (f : ℕ). head_bytes code f vendor n) e
-
 -- ---- groups
 
 -- a group is its header and its data, which is made of fours

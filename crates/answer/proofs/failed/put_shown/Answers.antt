@@ -3,32 +3,14 @@ use mathlib.Core.Path.{ap}
 use native.Mathlib.Omega.{arith}
 use lib.ListN.{length, length-take, length-drop}
 use Rattle.avp.proofs.WriteLaws.{appended-same}
-use Rattle.answer.proofs.FailedLaws.{shown-whole, shown-bare, shown-missing, readable-whole, readable-bare}
+use Rattle.answer.proofs.FailedLaws.{shown-whole, shown-bare, shown-missing, readable-whole}
 use Rattle.answer.proofs.failed.put_shown.Goals as goal
-
-pub slice_bounds-put_whole-count : goal.slice_bounds-put_whole-count
-slice_bounds-put_whole-count c = let r = readable-whole c.args.m.now c.in-Whole.is c.requires.1 in omega arith
-
-pub slice_bounds-put_whole-start : goal.slice_bounds-put_whole-start
-slice_bounds-put_whole-start c = let r = readable-whole c.args.m.now c.in-Whole.is c.requires.1 in omega arith
-
-pub slice_bounds-put_whole-end : goal.slice_bounds-put_whole-end
-slice_bounds-put_whole-end c = let r = readable-whole c.args.m.now c.in-Whole.is c.requires.1 in omega arith
 
 pub put_whole-requires : goal.put_whole-requires
 put_whole-requires c =
     let r = readable-whole c.args.m.now c.in-Whole.is c.requires.1 in
     let e = ap length (shown-whole c.args.m.now c.in-Whole.is) in
     (simp (length-take, length-drop) (omega arith), r.1, omega arith)
-
-pub slice_bounds-put_bare-count : goal.slice_bounds-put_bare-count
-slice_bounds-put_bare-count c = let r = readable-bare c.args.m.now c.in-Bare.is c.requires.1 in omega arith
-
-pub slice_bounds-put_bare-start : goal.slice_bounds-put_bare-start
-slice_bounds-put_bare-start c = let r = readable-bare c.args.m.now c.in-Bare.is c.requires.1 in omega arith
-
-pub slice_bounds-put_bare-end : goal.slice_bounds-put_bare-end
-slice_bounds-put_bare-end c = let r = readable-bare c.args.m.now c.in-Bare.is c.requires.1 in omega arith
 
 pub returns-in-Whole : goal.returns-in-Whole
 returns-in-Whole c = appended-same (shown-whole _ c.in-Whole.is) c.put_whole.ensures

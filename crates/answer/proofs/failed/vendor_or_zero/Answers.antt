@@ -11,7 +11,3 @@ returns-then-not-has_v c =
       | then-not-has_v-via-then-not-has_v w ↦ rw (sym c.has_v.ensures ∙ w.if-not-has_v.true)
       | then-not-has_v-via-else-not-has_v+then-s-lt8 w ↦ rw (sym c.has_v.ensures ∙ w.if-not-has_v.false) (sym (num_at_past 4 c.args.s.now 8 (omega (arith, w.if-s-lt8.true))))
     ]
-
-pub returns : goal.returns
-returns c =
-    rw (sym c.has_v.ensures ∙ c.if-not-has_v.false) c.get_cut.ensures.value

