@@ -6,7 +6,8 @@ ghost use Rattle.correction.specs.Judged.{HeadRight, ValueRight, Refused, Record
 
 use crate::kind::Kind;
 use crate::refusal::Refusal;
-use table::lookup::Found;
+use table::lookup::find_record;
+use table::record::Record;
 
 // Whole length (2), version 1, kind, IMSI (16), change number seen (4), value.
 pub const FRAME_HEAD: usize = 24;
@@ -66,10 +67,8 @@ pub fn judge_record(table: &[u8], frame: &[u8]) -> Result<usize, Refusal>
     requires { (valid table.now ≡ true) × (frame_head ≤ length frame.now) }
     ensures { MatchResult result (RecordFound table.now frame.now) (RecordRefused table.now frame.now) }
 {
-    let Found::At(i) = table::lookup::find_record(table, &frame[IMSI_AT..SEEN_AT]) else {
-        return Err(Refusal::NoSuchImsi);
-    };
-    let change = table::record::change_number(table, i);
+    let i = find_record(table, &frame[IMSI_AT..SEEN_AT]).ok_or(Refusal::NoSuchImsi)?;
+    let change = Record::at(table, i).change_number();
     let seen = wire::number::get::<u32>(frame, SEEN_AT);
     if change != seen {
         return Err(Refusal::ChangeDiffers);

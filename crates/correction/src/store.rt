@@ -10,7 +10,7 @@ ghost use Rattle.correction.specs.Judged.{Ready};
 use crate::judge::{Accepted, FRAME_HEAD};
 use crate::kind::Kind;
 use paper::layout::{AMBR_AT, PLMN_COUNT_AT, PLMNS_AT, RESTRICTION_AT, SUBSCRIPTION_AT};
-use table::record::{store_bytes, store_change};
+use table::record::{Record, store_bytes, store_change};
 
 // The value of a kind in record `i`.
 #[tactic(auto, unfolding(paper::specs::Correction::value_size, paper::specs::Correction::store_value))]
@@ -35,7 +35,7 @@ pub fn store_correction(table: &mut [u8], accepted: Accepted, frame: &[u8])
     ensures { table.new ≡ (accepted_for accepted.record frame.now table.old).table }
 {
     let i = accepted.record;
-    let change = table::record::change_number(table, i);
+    let change = Record::at(table, i).change_number();
     store_value(table, i, accepted.kind, &frame[FRAME_HEAD..]);
     store_change(table, i, std::num::wrapping_add_u32(change, 1));
 }

@@ -17,5 +17,8 @@ pub fn correct(table: &mut [u8], frame: &[u8]) -> Result<(), Refusal>
 pub fn dymosaw_correct(table: &mut [u8], frame: &[u8]) -> u32
     ensures { came_to result table.new ≡ corrected table.old frame.now }
 {
-    correction::correct(table, frame).map_or_else(u32::from, |()| 0)
+    match correction::correct(table, frame) {
+        Ok(()) => 0,
+        Err(refusal) => u32::from(refusal),
+    }
 }
