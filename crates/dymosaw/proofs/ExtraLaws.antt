@@ -64,11 +64,11 @@ module _ (asked : Asked) (m r : List ℕ) (d : Done) (told : asked ≡ asked_of 
   unfolding asked_of flags_key
   skips u = ap (λ (x : Asked). bit 2 (unwrap_or x.flags 0)) told ∙ ap (bit 2) (flags-given m) ∙ rw u
 
-  pub ula_extra : command_of ulr ≡ command_of asked.command → {restriction uplink downlink : ℕ} → restriction ≡ restriction_of r → uplink ≡ num_at 4 r ambr_at → downlink ≡ num_at 4 r (ambr_at + 4)
-      → extra_of (Some (Ula (cond (bit 2 (unwrap_or asked.flags 0)) None (Some (record { restriction = restriction; uplink = uplink; downlink = downlink }))))) ≡ success_items m r d
-  ula_extra e a b c =
+  pub ula_extra : command_of ulr ≡ command_of asked.command → {skip : Bool} → skip ≡ bit 2 (unwrap_or asked.flags 0) → {restriction uplink downlink : ℕ} → restriction ≡ restriction_of r → uplink ≡ num_at 4 r ambr_at → downlink ≡ num_at 4 r (ambr_at + 4)
+      → extra_of (Some (Ula (cond skip None (Some (record { restriction = restriction; uplink = uplink; downlink = downlink }))))) ≡ success_items m r d
+  ula_extra e q a b c =
       let u = sym own_code ∙ ulr-code asked.command e in
-      ula_shown m r d (eq-eqb (command_code m) ulr u) (skips u) a b c
+      ula_shown m r d (eq-eqb (command_code m) ulr u) (q ∙ skips u) a b c
 
   pub pua_extra : command_of pur ≡ command_of asked.command → {purges : ℕ} → purges ≡ d.purges → extra_of (Some (Pua purges)) ≡ success_items m r d
   pua_extra e f =

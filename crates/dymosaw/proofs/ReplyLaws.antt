@@ -20,7 +20,7 @@ use Rattle.paper.specs.Procedures.{Entry, sender, experimental, carried_out, can
 use Rattle.paper.specs.Answer.{Reply, answer}
 use Rattle.paper.specs.Shown.{verdict_of, extra_of, reply_of}
 use Rattle.paper.specs.ShownIn.{ShownIn}
-use Rattle.paper.specs.Outcome.{Lent, Outcome, answered, success_items, by_verdict, by_record, by_refusal}
+use Rattle.paper.specs.Outcome.{Lent, Outcome, answered, experimental_reply, success_items, by_verdict, by_record, by_refusal}
 use Rattle.paper.specs.Passed.{Passed}
 use Rattle.paper.proofs.TableLaws.{lookup_some}
 use Rattle.paper.proofs.StoreLaws.{inside-valid}
@@ -32,7 +32,7 @@ use Rattle.paper.proofs.AnswerSizes as Sizes
 use Rattle.paper.proofs.AnswerSizes.{ReplyTo}
 use Rattle.paper.proofs.ReplyShown.{refusal-shown, experimental-shown, success-shown}
 use Rattle.answer.specs.Ask.{AnswerAsk, said}
-use Rattle.answer.specs.declared.reply.Reply as Replied
+use Rattle.answer.specs.declared.reply.Reply as Written
 use Rattle.answer.proofs.AskLaws.{answer-ask}
 use Rattle.procedures.specs.Values.{Held, code_of, Carried}
 use Rattle.request.specs.declared.tests.Refusal as Request
@@ -56,14 +56,23 @@ pub reply_said : (m : List ℕ) (v : Verdict) (f : Given.Option Failed) (x : Giv
 unfolding reply_of
 reply_said m v f x echo = refl
 
+-- what an Experimental-Result replies
+abbrev replied : ExperimentalCode → Written.Reply
+replied c = record { verdict = Experimental c; failed = None; extra = None; echo = true }
+
+said-replied : (l : Lent) (c : ExperimentalCode) {y : Written.Reply} → y ≡ replied c → answered l l.table [] (said l.request y) ≡ answered l l.table [] (experimental_reply c.0)
+said-replied l c e = ap (λ (y : Written.Reply). answered l l.table [] (said l.request y)) e ∙ ap (answered l l.table []) (experimental-shown l.request c.0)
+
 -- ---- what the writer of the answer asks
 
 module _ (l : Lent) (p : Passed l) where
   ask_for : (f : Given.Option Failed) {y : Reply} → ShownIn l.request f → ReplyTo l.request y → AnswerAsk l.answer l.request l.host l.realm f y
   ask_for f r t = answer-ask l.answer l.request l.host l.realm f p.answer_room p.least p.most p.host_name p.realm_name r t
 
-  pub ask-experimental : refusal l.request ≡ none → (c : ExperimentalCode) → AnswerAsk l.answer l.request l.host l.realm None (reply_of l.request (Experimental c) None None true)
-  ask-experimental n c = subst (AnswerAsk l.answer l.request l.host l.realm None) (sym (experimental-shown l.request c.0)) (ask_for None tt (Sizes.experimental c.0 n))
+  pub ask-experimental : refusal l.request ≡ none → (c : ExperimentalCode) → {y : Written.Reply} → y ≡ replied c → AnswerAsk l.answer l.request l.host l.realm y.failed (said l.request y)
+  ask-experimental n c e =
+      subst (λ (y : Written.Reply). AnswerAsk l.answer l.request l.host l.realm y.failed (said l.request y)) (sym e)
+      (subst (AnswerAsk l.answer l.request l.host l.realm None) (sym (experimental-shown l.request c.0)) (ask_for None tt (Sizes.experimental c.0 n)))
 
   pub ask-success : refusal l.request ≡ none → (r : List ℕ) (i : ℕ) (x : Given.Option Extra) → extra_of x ≡ success_items l.request r (carried_out l.request i l.table)
       → AnswerAsk l.answer l.request l.host l.realm None (reply_of l.request (Base (record { 0 = 2001 })) None x true)
@@ -97,10 +106,9 @@ module _ (l : Lent) {r : Result (Unit {0}) Request.Refusal} (j : Answers l.reque
 -- ---- no such IMSI, and a record found
 
 module _ (l : Lent) {r : Given.Option ℕ} (f : place_of r ≡ lookup (imsi_field l.request) l.table) where
-  pub unknown-outcome : r ≡ None → {o : Outcome} → o ≡ answered l l.table [] (reply_of l.request (Experimental (record { 0 = 5001 })) None None true)
-      → o ≡ by_record l (lookup (imsi_field l.request) l.table)
+  pub unknown-outcome : r ≡ None → {y : Written.Reply} → y ≡ replied (record { 0 = 5001 }) → {o : Outcome} → o ≡ answered l l.table [] (said l.request y) → o ≡ by_record l (lookup (imsi_field l.request) l.table)
   unfolding by_record
-  unknown-outcome e q = q ∙ ap (answered l l.table []) (experimental-shown l.request 5001) ∙ ap (by_record l) (sym (ap place_of e) ∙ f)
+  unknown-outcome e y q = q ∙ said-replied l (record { 0 = 5001 }) y ∙ ap (by_record l) (sym (ap place_of e) ∙ f)
 
   module _ (i : ℕ) (e : r ≡ Some i) where
     pub found_held : valid l.table ≡ true → Held l.table i
@@ -113,11 +121,10 @@ module _ (l : Lent) {r : Given.Option ℕ} (f : place_of r ≡ lookup (imsi_fiel
 -- ---- an Experimental-Result, and success
 
 module _ (l : Lent) (i : ℕ) {r : Result (Unit {0}) ExperimentalCode} (f : code_of r ≡ experimental l.request (record_of l.table i)) where
-  pub ruled-outcome : (c : ExperimentalCode) → r ≡ Err c → {o : Outcome} → o ≡ answered l l.table [] (reply_of l.request (Experimental c) None None true)
+  pub ruled-outcome : (c : ExperimentalCode) → r ≡ Err c → {y : Written.Reply} → y ≡ replied c → {o : Outcome} → o ≡ answered l l.table [] (said l.request y)
       → o ≡ by_verdict l i (record_of l.table i) (experimental l.request (record_of l.table i))
   unfolding by_verdict
-  ruled-outcome c e q =
-      q ∙ ap (answered l l.table []) (experimental-shown l.request c.0) ∙ ap (by_verdict l i (record_of l.table i)) (sym (ap code_of e) ∙ f)
+  ruled-outcome c e y q = q ∙ said-replied l c y ∙ ap (by_verdict l i (record_of l.table i)) (sym (ap code_of e) ∙ f)
 
   pub fine-outcome : {u : Unit {0}} → r ≡ Ok u → {o : Outcome} → o ≡ by_verdict l i (record_of l.table i) none → o ≡ by_verdict l i (record_of l.table i) (experimental l.request (record_of l.table i))
   fine-outcome e q = q ∙ ap (by_verdict l i (record_of l.table i)) (sym (ap code_of e) ∙ f)

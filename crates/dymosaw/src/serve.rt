@@ -1,6 +1,6 @@
 // A request from its bytes to the answer's bytes, the record and the list of nodes to cancel. It is decided first, with every buffer only read, and
 // written after. `serve` is the call for Rattle, `dymosaw_request` the one for C, which crates/dymosaw_c exports.
-ghost use Rattle.std.specs.Prelude.{◌≡◌, ℕ, ◌+◌, ◌<◌, ◌≤◌, List, [], length, Ok, None, unwrap_or};
+ghost use Rattle.std.specs.Prelude.{◌≡◌, ℕ, ◌+◌, ◌<◌, ◌≤◌, List, [], length, true, Ok, None, unwrap_or};
 ghost use Rattle.std.proofs.Math.Option.{none};
 ghost use Rattle.wire.specs.Number.{num_at, Bytes};
 ghost use Rattle.answer.specs.Ask.{AnswerAsk, said};
@@ -269,9 +269,7 @@ fn serve_record(
 {
     match verdict(table, i, accepted.asked, sender, accepted.visited_plmn) {
         Err(code) => put_refusal(request, own, experimental(code), answer, cancel),
-        Ok(()) => grant(
-            table, i, accepted, sender, request, own, answer, cancel,
-        ),
+        Ok(()) => grant(table, i, accepted, sender, request, own, answer, cancel),
     }
 }
 
@@ -292,9 +290,7 @@ fn serve_accepted(
     let sender = origin_host(request);
     let imsi = imsi_field(accepted.user_name);
     match find_record(table, &imsi) {
-        Some(i) => serve_record(
-            table, i, accepted, sender, request, own, answer, cancel,
-        ),
+        Some(i) => serve_record(table, i, accepted, sender, request, own, answer, cancel),
         None => put_refusal(
             request,
             own,
@@ -349,13 +345,7 @@ pub fn serve(
     ensures bytes { Bytes request.now }
 {
     admit(table, request, host, realm, answer, cancel)?;
-    Ok(serve_request(
-        table,
-        request,
-        Own { host, realm },
-        answer,
-        cancel,
-    ))
+    Ok(serve_request(table, request, Own { host, realm }, answer, cancel))
 }
 
 // The same for C: the high 32 bits are the refusal's number, 0 where there is an answer, and the low 32 bits the answer's length.

@@ -8,7 +8,7 @@ pub verdict-requires : goal.verdict-requires
 verdict-requires c = c.requires.1
 
 pub put_refusal-requires : goal.put_refusal-requires
-put_refusal-requires c = (ask-experimental (lent c.args.table.now c.args.request.now c.args.own.host.now c.args.own.realm.now c.args.answer.now c.args.cancel.now) c.requires.0.passed c.requires.0.fine _, c.requires.0.passed.cancel_room)
+put_refusal-requires c = (ask-experimental (lent c.args.table.now c.args.request.now c.args.own.host.now c.args.own.realm.now c.args.answer.now c.args.cancel.now) c.requires.0.passed c.requires.0.fine _ c.experimental.ensures, c.requires.0.passed.cancel_room)
 
 pub grant-requires : goal.grant-requires
 grant-requires c = c.requires
@@ -16,7 +16,7 @@ grant-requires c = c.requires
 pub returns-in-Err : goal.returns-in-Err
 returns-in-Err c =
     let ruling = c.verdict.ensures _ c.requires.2.asked c.requires.3 c.requires.2.plmn in
-    ruled-outcome (lent c.args.table.now c.args.request.now c.args.own.host.now c.args.own.realm.now c.args.answer.now c.args.cancel.now) c.args.i ruling _ c.in-Err.is (c.put_refusal.ensures _)
+    ruled-outcome (lent c.args.table.now c.args.request.now c.args.own.host.now c.args.own.realm.now c.args.answer.now c.args.cancel.now) c.args.i ruling _ c.in-Err.is c.experimental.ensures (c.put_refusal.ensures _)
 
 pub returns-in-Ok : goal.returns-in-Ok
 returns-in-Ok c =
