@@ -110,7 +110,7 @@ DAMAGES = [
     ("crates/request/src/tests.rt", "h.application == APPLICATION", "h.application == 16_777_251", "tests.rt:", "16777251"),
     ("crates/procedures/src/cancel.rt", "put_zeros(cancel, 0, CANCEL_SIZE)", "put_zeros(cancel, 0, 136)", "cancel.rt:", "136"),
     ("crates/dymosaw/src/serve.rt", "entry_at(cancel, ENTRY_SIZE)", "entry_at(cancel, 68)", "serve.rt:", "68"),
-    ("crates/table/src/valid.rt", "from + layout::RECORD_SIZE", "from + 256", "valid.rt:", "256"),
+    ("crates/table/src/valid.rt", "layout::TABLE_HEADER + layout::RECORD_SIZE * n", "layout::TABLE_HEADER + 256 * n", "valid.rt:", "256"),
     ("crates/table/src/valid.rt", "layout::MOST_RECORDS < n", "240 < n", "valid.rt:", "240"),
     ("crates/avp/src/find.rt", ", ORIGIN_HOST)", ", Key { vendor: 0, code: 264 })", "find.rt:", "264"),
     ("crates/answer/src/parts.rt", "PUA_FLAGS, flags)", "1442, flags)", "parts.rt:", "1442"),
