@@ -31,7 +31,7 @@ fn proxiable_flag(m: &[u8]) -> u8
     requires { least_request ≤ length m.now }
     ensures { result ≡ cond (is_proxiable m.now) 64 0 }
 {
-    if m[4] / 64 % 2 == 1 { 64 } else { 0 }
+    m[4] & 64
 }
 
 impl Reply {
