@@ -16,6 +16,7 @@ use paper::Asked;
 use paper::profile::{PUR, ULR};
 
 // ---- a node cleared, a purge bit set, the IMEI stored, each where it applies
+// A record that is written stays (t, i): a struct that held the table's `&mut` would need a clause on its reference at each function, in place of `Held`.
 
 // The node is cancelled, and registered: it is to be cleared.
 fn is_cleared(subscriber: Subscriber, node: Node, how: Option<CancellationType>) -> bool

@@ -87,7 +87,7 @@ fn update_verdict(
     refuse_if(plmn_refused(subscriber, plmn), 5004)
 }
 
-// What refuses the request `m` whose values these are.
+// What refuses the request `m` whose values these are. (t, i) and `Held` stay: docs/STATEMENTS.md names `verdict`.
 pub fn verdict(
     t: &[u8],
     i: usize,
