@@ -90,7 +90,7 @@ among_both met seen x f k h = go (eqb k x) h
     go false t = f k t
 
 no_some : {A : Type 0} {p : A} → some p ≡ none → ⊥
-no_some e = let z : ◌≡◌ {A = ℕ} 0 1 = cc in absurd (omega arith)
+no_some e = cc
 
 second_fewer : (keys wide : List ℕ) → Among keys wide → (l : Avps) (met seen : List ℕ) → Among met seen → first_second wide seen l ≡ none → first_second keys met l ≡ none
 unfolding first_second

@@ -123,8 +123,8 @@ module _ (m : List ℕ) (long : 20 ≤ length m) where
   fault-found : (f : Option Faulty) (u : Option Placed) → ((g : Faulty) → f ≡ some g → HeadIn m g.shown) → {code at to : ℕ} → Fault code at to ≡ tell f u
       → Answers m (of_fault f) (Err (refusal_of code (Some (Bare at to)) false))
   unfolding tell of_fault
-  fault-found none none s e = let z : ◌≡◌ {A = ℕ} 0 1 = cc in absurd (omega arith)
-  fault-found none (some p) s e = let z : ◌≡◌ {A = ℕ} 0 1 = cc in absurd (omega arith)
+  fault-found none none s e = absurd (cc)
+  fault-found none (some p) s e = absurd (cc)
   fault-found (some g) u s {code} {at} {to} e =
       let ec : code ≡ g.code = cc in
       let ea : at ≡ g.shown.at = cc in
@@ -138,12 +138,12 @@ module _ (m : List ℕ) (long : 20 ≤ length m) where
   unsupported-found : (f : Option Faulty) (u : Option Placed) → Standing m u → {at to : ℕ} → Unsupported at to ≡ tell f u
       → Answers m (of_found 5001 u) (Err (refusal_of 5001 (Some (Whole at to)) true))
   unfolding tell of_found
-  unsupported-found none none s e = let z : ◌≡◌ {A = ℕ} 0 1 = cc in absurd (omega arith)
+  unsupported-found none none s e = absurd (cc)
   unsupported-found none (some p) s {at} {to} e =
       let ea : at ≡ p.at = cc in
       let et : to ≡ p.end = cc in
       rw (ea, et) (whole_answers m 5001 p (s p refl))
-  unsupported-found (some g) u s e = let z : ◌≡◌ {A = ℕ} 0 1 = cc in absurd (omega arith)
+  unsupported-found (some g) u s e = absurd (cc)
 
   pub unsupported_answers : {at to : ℕ} → Unsupported at to ≡ told (view_of m) → Answers m (unsupported_test m) (Err (refusal_of 5001 (Some (Whole at to)) true))
   unfolding told unsupported_test

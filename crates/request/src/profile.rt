@@ -1,4 +1,6 @@
 // The application as data: its commands, and the AVPs that each of them requires and uses. The numbers are those of paper's profile.
+#![tactic(auto, unfolding(paper::specs::Profile::command_of, paper::specs::Profile::commands, paper::specs::Profile::command_in, paper::specs::Request::required_in, paper::specs::Request::used_in, paper::specs::Asked::flags_key))]
+
 ghost use Rattle.std.specs.Prelude.{◌≡◌, ◌≤◌, map, length};
 ghost use Rattle.paper.specs.Profile.{command_of};
 ghost use Rattle.paper.specs.Request.{has, used_in, required_in};
@@ -58,7 +60,6 @@ static NOR_KEYS: [Key; 8] = [
 
 impl Command {
     // The AVPs that it requires, in the order of 5005.
-    #[tactic(auto, unfolding(paper::specs::Profile::command_of, paper::specs::Profile::commands, paper::specs::Profile::command_in, paper::specs::Request::required_in))]
     pub fn required(self) -> &'static [Key]
         ensures { map key_at result.now ≡ required_in (row_of (Some self)) }
     {
@@ -70,7 +71,6 @@ impl Command {
     }
 
     // The AVPs that it uses; 5009 goes by these.
-    #[tactic(auto, unfolding(paper::specs::Profile::command_of, paper::specs::Profile::commands, paper::specs::Profile::command_in, paper::specs::Request::used_in))]
     pub fn used(self) -> &'static [Key]
         ensures listed { map key_at result.now ≡ used_in (row_of (Some self)) }
         ensures few { length result.now ≤ 16 }
@@ -89,7 +89,6 @@ impl Command {
     }
 }
 
-#[tactic(auto, unfolding(paper::specs::Profile::command_of, paper::specs::Profile::commands, paper::specs::Profile::command_in))]
 pub fn command_of(code: u32) -> Option<Command>
     ensures { row_of result ≡ command_of code }
 {
@@ -102,7 +101,6 @@ pub fn command_of(code: u32) -> Option<Command>
 }
 
 // The flag word that a command has of its own.
-#[tactic(auto, unfolding(paper::specs::Asked::flags_key))]
 pub fn flags_key(code: u32) -> Key
     ensures { key_at result ≡ flags_key code }
 {
