@@ -107,7 +107,7 @@ DAMAGES = [
     ("crates/procedures/src/carry.rt", "        ULR => {", "        316 => {", "carry.rt:", "316"),
     ("crates/procedures/src/carry.rt", "        ULR => {", "        0x13C_u32 => {", "carry.rt:", "316"),
     ("crates/procedures/src/verdict.rt", "        NOR => refuse_if", "        323u32 => refuse_if", "verdict.rt:", "323"),
-    ("crates/request/src/tests.rt", "h.application == APPLICATION", "h.application == 16_777_251", "tests.rt:", "16777251"),
+    ("crates/request/src/tests.rt", "header.application == APPLICATION", "header.application == 16_777_251", "tests.rt:", "16777251"),
     ("crates/procedures/src/cancel.rt", "put_zeros(cancel, 0, CANCEL_SIZE)", "put_zeros(cancel, 0, 136)", "cancel.rt:", "136"),
     ("crates/dymosaw/src/serve.rt", "entry_at(cancel, ENTRY_SIZE)", "entry_at(cancel, 68)", "serve.rt:", "68"),
     ("crates/table/src/valid.rt", "layout::TABLE_HEADER + layout::RECORD_SIZE * n", "layout::TABLE_HEADER + 256 * n", "valid.rt:", "256"),
