@@ -8,7 +8,7 @@ ghost use Rattle.dymosaw.specs.Desk.{line_room};
 use paper::Line;
 use wire::put::put_bytes;
 
-// A number in decimal: the digits before the last, then the last.
+// A number in decimal: the digits before the last, then the last. By a recursion: `write!` promises its bytes of a String alone, which needs the heap.
 pub fn put_decimal(out: &mut [u8], at: usize, n: u64) -> usize
     requires { at + length (decimal n) ≤ length out.old }
     ensures { Wrote out.old at (decimal n) out.new result }
@@ -28,7 +28,7 @@ pub fn put_spaced(out: &mut [u8], at: usize, n: u64) -> usize
     put_decimal(out, next, n)
 }
 
-// The code behind a space, with E before an Experimental one.
+// The code behind a space, with E before an Experimental one: a bool, as `paper`'s `code_bytes` has it, for a code stands there either way.
 pub fn put_code(out: &mut [u8], at: usize, experimental: bool, code: u32) -> usize
     requires { at + length (code_bytes experimental code) ≤ length out.old }
     ensures { Wrote out.old at (code_bytes experimental code) out.new result }
@@ -54,7 +54,7 @@ pub fn put_line(out: &mut [u8], number: u64, line: Line) -> usize
     put_bytes(out, end, b"\n")
 }
 
-// A line of a frame that is not answered.
+// A line of a frame that is not answered. The letter is a byte, as `paper`'s `line_bytes` has it.
 pub fn plain(letter: u8, code: u32) -> Line
     ensures { result ≡ plain_line letter code }
 {

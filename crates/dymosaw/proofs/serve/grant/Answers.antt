@@ -1,6 +1,6 @@
 -- `grant` meets its contract: the procedures carried out, then the answer of success.
 -- Assumes nothing.
-use Rattle.std.proofs.Common.{◌∙◌, arith}
+use Rattle.std.proofs.Common.{arith}
 use Rattle.paper.specs.Table.{record_of}
 use Rattle.paper.specs.Procedures.{carried_out}
 use Rattle.dymosaw.specs.Serve.{lent}
