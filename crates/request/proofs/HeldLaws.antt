@@ -9,7 +9,6 @@ use lib.ListN.{length, drop}
 use Rattle.std.specs.Prelude as Std
 use Rattle.std.specs.Prelude.{Some, None}
 use Rattle.paper.specs.Reader.{Placed, Avps, whole, avps}
-use Rattle.paper.specs.Find.{body_found}
 use Rattle.paper.specs.Profile.{Key, command_of, terminal_information, imei}
 use Rattle.paper.specs.Shown.{stretch}
 use Rattle.paper.specs.Request.{find, has, used, used_in, avps_of, command_code, inside, terminal, if_used, imei_of}

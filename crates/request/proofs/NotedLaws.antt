@@ -5,7 +5,6 @@ use mathlib.Core.Bool.{Bool, true, false, cond, ◌&&◌, ◌||◌, false≢true
 use mathlib.Core.Option.{Option, none, some}
 use mathlib.Core.List.{List, [], ◌∷◌, map}
 use Prim.Native.Nat.{ℕ}
-use native.Mathlib.Omega.{arith}
 use lib.ListN.{drop}
 use lib.Dec.{eqb}
 use borrow.Author.Tests.{eqb-true}

@@ -6,7 +6,6 @@ use mathlib.Core.Option.{Option, none, some}
 use mathlib.Core.List.{List, [], map}
 use Prim.Native.Nat.{ℕ, ◌+◌, ◌/◌, ◌%◌, ◌≤◌, ◌<◌}
 use native.Mathlib.Numerals.{add-one}
-use native.Mathlib.Omega.{arith}
 use lib.Dec.{eqb}
 use lib.ListN.{length, drop, get_or, replicate, drop_of_length-le}
 use lib.Seq.{drop-cons}
@@ -18,7 +17,7 @@ use Rattle.dictionary.specs.declared.Kind.TheVariants.{Four, Eight, Any, Group, 
 use Rattle.dictionary.specs.declared.Key.{Key}
 use Rattle.dictionary.specs.Rows.{kind_of}
 use Rattle.paper.specs.declared.Visit.{Visit}
-use Rattle.paper.specs.declared.Visit.TheVariants.{Clean, Fault, Unsupported}
+use Rattle.paper.specs.declared.Visit.TheVariants.{Fault, Unsupported}
 use Rattle.paper.specs.declared.Failed.TheVariants.{Whole, Bare, Missing}
 use Rattle.paper.specs.Reader.{Placed, Avps, Faulty, tell, told}
 use Rattle.paper.specs.Find.{body_found}

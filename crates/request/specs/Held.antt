@@ -1,7 +1,6 @@
 -- What is noted of a request: that its places are those of the AVPs that some command uses, and that none of these was met twice.
 -- Assumes nothing.
-use Rattle.std.specs.Prelude.{◌≡◌, false, List, [], ℕ, drop, map, Bool, Option}
-use Rattle.dictionary.specs.declared.Key.{Key}
+use Rattle.std.specs.Prelude.{List, [], ℕ, drop, map, Bool, Option}
 use Rattle.paper.specs.Layout.{message_header}
 use Rattle.paper.specs.Find.{first_second}
 use Rattle.paper.specs.Request.{avps_of, is_there}
