@@ -19,6 +19,7 @@ impl<'a> Noted<'a> {
     fn uses(&self, key: Key) -> bool
         ensures { result ≡ has (key_at key) (used self.now.request.now) }
     {
+        // A match: with `is_some_and` the proof did not close, since the closure's call tells it nothing of the command.
         match self.command {
             Some(command) => command.uses(key),
             None => false,
