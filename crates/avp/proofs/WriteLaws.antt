@@ -8,10 +8,10 @@ use native.Mathlib.Omega.{arith}
 use lib.ListN.{length, drop, replicate, length-append, length-replicate}
 use lib.Dec.{ltb, leb, eqb}
 use borrow.Author.Tests.{le-ltb, lt-ltb, le-leb, lt-leb}
+use Rattle.std.proofs.lemmas.Bool.{and_left, and_right}
 use Rattle.wire.specs.Number.{be}
 use Rattle.wire.specs.Put.{Wrote}
 use Rattle.wire.proofs.NumberLaws.{be-append}
-use Rattle.wire.proofs.ListLaws.{and-false-left, and-false-right}
 use Rattle.wire.proofs.PutLaws.{wrote_then, wrote_under, wrote-same, wrote_nothing}
 use Rattle.paper.specs.Avp.{has_v, head_size, padded, vendor_field, avp_of, as_received, flags_for, written}
 use Rattle.paper.proofs.AvpLaws.{padded-least, padded-whole}
@@ -165,11 +165,11 @@ module _ (out : List ℕ) (at vendor code : ℕ) (mandatory : Bool) (body : List
 
   pub too_long : 16777199 < length body → came_to not_written out ≡ avp_written out at vendor code mandatory body
   unfolding has_room
-  too_long h = refused (and-false-left (ltb (length body) 16777200) (leb (at + length (written vendor code mandatory body)) (length out)) (le-ltb (length body) 16777200 (omega arith)))
+  too_long h = refused (and_left (ltb (length body) 16777200) (leb (at + length (written vendor code mandatory body)) (length out)) (le-ltb (length body) 16777200 (omega arith)))
 
   pub no_room : length out < at + padded (head_size (flags_for vendor mandatory) + length body) → came_to not_written out ≡ avp_written out at vendor code mandatory body
   unfolding has_room
-  no_room h = refused (and-false-right (ltb (length body) 16777200) (leb (at + length (written vendor code mandatory body)) (length out)) (lt-leb (at + length (written vendor code mandatory body)) (length out) (rw (size-written vendor code mandatory body) h)))
+  no_room h = refused (and_right (ltb (length body) 16777200) (leb (at + length (written vendor code mandatory body)) (length out)) (lt-leb (at + length (written vendor code mandatory body)) (length out) (rw (size-written vendor code mandatory body) h)))
 
   pub room : at + padded (head_size (flags_for vendor mandatory) + length body) ≤ length out → at + length (written vendor code mandatory body) ≤ length out
   room h = rw (size-written vendor code mandatory body) h

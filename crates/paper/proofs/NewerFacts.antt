@@ -7,7 +7,7 @@ use mathlib.Core.List.{List, [], ◌∷◌, map}
 use Prim.Native.Nat.{ℕ}
 use lib.Dec.{eqb}
 use borrow.Author.Tests.{eqb-true, not-true}
-use Rattle.wire.proofs.ListLaws.{and-true-left, and-true-right}
+use Rattle.std.proofs.lemmas.Bool.{and_parts}
 use Rattle.dictionary.specs.Rows.{key_of, kind_of, kind_with, kind_in, rows}
 use Rattle.dictionary.specs.declared.Kind.{Kind}
 use Rattle.dictionary.specs.declared.Kind.TheVariants.{Group, Unknown}
@@ -52,8 +52,8 @@ is_seen c k = uses c top_level k.vendor k.code && leaf_kind (kind_of k.vendor k.
 pub sees_named : (c : ℕ) (k : Key) → is_seen c k ≡ true → Sees c k (named_use k.vendor k.code)
 unfolding is_seen seen_by
 sees_named c k e =
-    let u = and-true-left (uses c top_level k.vendor k.code) _ e in
-    record { looks = u; kind = and-true-right (uses c top_level k.vendor k.code) _ e; all = λ x. rw u }
+    let u = (and_parts (uses c top_level k.vendor k.code) _ e).0 in
+    record { looks = u; kind = (and_parts (uses c top_level k.vendor k.code) _ e).1; all = λ x. rw u }
 
 -- all of it, where it is no flag word
 unfoldable pub is_whole : ℕ → Key → Bool
@@ -62,8 +62,8 @@ is_whole c k = is_seen c k && not (is_flag_word k)
 pub sees_whole : (c : ℕ) (k : Key) → is_whole c k ≡ true → Whole c k
 unfolding is_whole
 sees_whole c k e =
-    let h = sees_named c k (and-true-left (is_seen c k) _ e) in
-    record { looks = h.looks; kind = h.kind; all = λ x. h.all x ∙ named-whole k x (not-true (is_flag_word k) (and-true-right (is_seen c k) _ e)) }
+    let h = sees_named c k (and_parts (is_seen c k) _ e).0 in
+    record { looks = h.looks; kind = h.kind; all = λ x. h.all x ∙ named-whole k x (not-true (is_flag_word k) (and_parts (is_seen c k) _ e).1) }
 
 -- ---- the facts of the three commands, computed
 
@@ -136,8 +136,8 @@ unknown-not_among : (xs : List ℕ) → all_known xs ≡ true → (k : ℕ) → 
 unfolding all_known member
 unknown-not_among [] h k u = refl
 unknown-not_among (x ∷ xs) h k u =
-    let a = and-true-left (known (kind_with x rows)) (all_known xs) h in
-    let r = and-true-right (known (kind_with x rows)) (all_known xs) h in
+    let a = (and_parts (known (kind_with x rows)) (all_known xs) h).0 in
+    let r = (and_parts (known (kind_with x rows)) (all_known xs) h).1 in
     not_among k x xs u a (unknown-not_among xs r k u)
 
 -- an unknown AVP has no key of the set

@@ -10,10 +10,11 @@ use lib.Dec.{ltb, eqb}
 use lib.ListN.{length, take, drop, replicate, drop_of_length-le}
 use lib.Seq.{length-take-le, drop_at}
 use borrow.Author.Tests.{lt-ltb, le-leb, lt-leb, leb-true}
+use Rattle.std.proofs.lemmas.Bool.{and_from, and_parts}
 use Rattle.wire.specs.Number.{num_at, Bytes}
 use Rattle.wire.specs.Stretch.{all_in}
 use Rattle.wire.specs.Put.{part, put}
-use Rattle.wire.proofs.ListLaws.{and-true-right, and-true_both, part-part, part-split}
+use Rattle.wire.proofs.ListLaws.{part-part, part-split}
 use Rattle.wire.proofs.NumberLaws.{bytes_drop}
 use Rattle.wire.proofs.PutLaws.{length-put, part-put, part-before}
 use Rattle.paper.specs.Avp.{has_v, has_m, head_size, padded, flags_of, length_of, vendor_of, framed, after, avp_of, vendor_field, as_received, flags_for, written, written_again, Alike, alike_of}
@@ -51,7 +52,7 @@ room_for w = has_room w.out w.at w.vendor w.code w.mandatory w.body
 
 inside : (w : WriteAvpCall) → room_for w ≡ true → w.at + length (bytes_of w) ≤ length w.out
 unfolding has_room
-inside w e = leb-true (w.at + length (bytes_of w)) (length w.out) (and-true-right (ltb (length w.body) 16777200) _ e)
+inside w e = leb-true (w.at + length (bytes_of w)) (length w.out) (and_parts (ltb (length w.body) 16777200) _ e).1
 
 stored : (w : WriteAvpCall) (to : ℕ) → w.result ≡ UpTo to → Stored w to
 unfolding avp_written
@@ -70,7 +71,7 @@ enough w h k =
     let m = head_size-most (flags_for w.vendor w.mandatory) in
     let l = size-written w.vendor w.code w.mandatory w.body in
     let p = padded-most (head_size (flags_for w.vendor w.mandatory) + length w.body) in
-    and-true_both _ _ (lt-ltb _ _ h) (le-leb (w.at + length (bytes_of w)) (length w.out) (omega arith))
+    and_from _ _ (lt-ltb _ _ h) (le-leb (w.at + length (bytes_of w)) (length w.out) (omega arith))
 
 pub room_enough : RoomEnough
 unfolding avp_written

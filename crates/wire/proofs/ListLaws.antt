@@ -1,32 +1,13 @@
--- Laws of parts of lists and of tests joined by `&&`.
+-- Laws of parts of lists.
 -- Assumes nothing.
 use mathlib.Core.Path.{◌≡◌, sym, ap, ◌∙◌}
-use mathlib.Core.Bool.{Bool, true, false, ◌&&◌}
 use mathlib.Core.List.{List, ◌++◌, append_assoc}
 use Prim.Native.Nat.{ℕ, ◌+◌, ◌-◌, ◌≤◌, ◌<◌}
 use native.Mathlib.Omega.{arith}
 use lib.ListN.{length, take, drop, get_or, replicate, length-append, length-take, length-drop, length-replicate, replicate-append-replicate}
 use lib.Seq.{take-length, take-take, take-add, take_at, drop_at, drop-drop, take-append-le, drop-append-le, drop-append-add, get_or-take, get_or-drop, ext_get_or}
-use Rattle.std.proofs.lemmas.Bool.{and_parts, and_from, and_left, and_right}
 use Rattle.std.proofs.lemmas.List.{drop-take}
 use Rattle.wire.specs.Put.{part}
-
--- ---- two tests joined
-
-pub and-true-left : (a b : Bool) → a && b ≡ true → a ≡ true
-and-true-left a b e = (and_parts a b e).0
-
-pub and-true-right : (a b : Bool) → a && b ≡ true → b ≡ true
-and-true-right a b e = (and_parts a b e).1
-
-pub and-true_both : (a b : Bool) → a ≡ true → b ≡ true → a && b ≡ true
-and-true_both = and_from
-
-pub and-false-left : (a b : Bool) → a ≡ false → a && b ≡ false
-and-false-left = and_left
-
-pub and-false-right : (a b : Bool) → b ≡ false → a && b ≡ false
-and-false-right = and_right
 
 -- ---- parts
 
