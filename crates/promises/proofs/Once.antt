@@ -6,7 +6,7 @@ use mathlib.Core.Logic.{◌≢◌}
 use mathlib.Core.Option.{Option, none, some}
 use mathlib.Core.List.{List, [], ◌∷◌, ◌++◌}
 use Prim.Native.Nat.{ℕ, ◌<◌, ◌+◌, ◌*◌, ◌%◌, ◌^◌}
-use Rattle.std.specs.Prelude.{Result, Ok, Err}
+use Rattle.std.specs.Prelude.{Result, Ok, Err, ⊤}
 use native.Mathlib.Omega.{arith}
 use lib.Dec.{eqb}
 use lib.ListN.{take, replicate}
@@ -26,9 +26,9 @@ use Rattle.paper.specs.Refusals as Refusals
 use Rattle.paper.specs.Shown.{verdict_of}
 use Rattle.paper.proofs.ClosedAttach as paper-attach
 use Rattle.paper.proofs.Newer as paper-newer
-use Rattle.correction.specs.Answer as Correcting
-use Rattle.correction.specs.declared.judge.Answer as Correct
-use Rattle.correction.specs.declared.judge.Answer.TheVariants.{Stored, TableNotValid, LengthWrong, VersionWrong, KindUnknown, LengthWrongForKind, ValueNotValid, NoSuchImsi, ChangeDiffers}
+use Rattle.correction.specs.Refusal as Correcting
+use Rattle.correction.specs.declared.refusal.Refusal as Correct
+use Rattle.correction.specs.declared.refusal.Refusal.TheVariants.{TableNotValid, LengthWrong, VersionWrong, KindUnknown, LengthWrongForKind, ValueNotValid, NoSuchImsi, ChangeDiffers}
 use Rattle.dymosaw.specs.declared.serve.Answered.{Answered}
 use Rattle.dymosaw.specs.declared.serve.Silent.{Silent}
 use Rattle.dymosaw.specs.declared.serve.Silent.TheVariants.{RequestSize, NotRequest, ShortBuffer, TableNotValid as InvalidTable, OwnNameNotValid}
@@ -132,22 +132,26 @@ request_once c d e = same_requested c d (ap outcome e)
 
 -- ---- corrections
 
--- the answer that has the number
-answer_numbered : ℕ → Correct.Answer
-answer_numbered n =
-    cond (eqb n 0) Stored (cond (eqb n 4) TableNotValid (cond (eqb n 11) LengthWrong (cond (eqb n 12) VersionWrong (cond (eqb n 13) KindUnknown (cond (eqb n 14) LengthWrongForKind (cond (eqb n 15) ValueNotValid (cond (eqb n 16) NoSuchImsi ChangeDiffers)))))))
+-- the refusal that has the number
+refusal_numbered : ℕ → Correct.Refusal
+refusal_numbered n =
+    cond (eqb n 4) TableNotValid (cond (eqb n 11) LengthWrong (cond (eqb n 12) VersionWrong (cond (eqb n 13) KindUnknown (cond (eqb n 14) LengthWrongForKind (cond (eqb n 15) ValueNotValid (cond (eqb n 16) NoSuchImsi ChangeDiffers))))))
 
-number_back : (a : Correct.Answer) → answer_numbered (Correcting.number_of a) ≡ a
-unfolding answer_numbered
-number_back Stored = refl
-number_back TableNotValid = refl
-number_back LengthWrong = refl
-number_back VersionWrong = refl
-number_back KindUnknown = refl
-number_back LengthWrongForKind = refl
-number_back ValueNotValid = refl
-number_back NoSuchImsi = refl
-number_back ChangeDiffers = refl
+-- the answer that has it
+answer_numbered : ℕ → Result ⊤ Correct.Refusal
+answer_numbered n = cond (eqb n 0) (Ok tt) (Err (refusal_numbered n))
+
+number_back : (r : Result ⊤ Correct.Refusal) → answer_numbered (Correcting.number_for r) ≡ r
+unfolding answer_numbered refusal_numbered
+number_back (Ok u) = refl
+number_back (Err TableNotValid) = refl
+number_back (Err LengthWrong) = refl
+number_back (Err VersionWrong) = refl
+number_back (Err KindUnknown) = refl
+number_back (Err LengthWrongForKind) = refl
+number_back (Err ValueNotValid) = refl
+number_back (Err NoSuchImsi) = refl
+number_back (Err ChangeDiffers) = refl
 
 -- two corrections of one table by one frame
 same-corrected : {t u f g : List ℕ} {x y : Corrected} → x ≡ corrected t f → y ≡ corrected u g → u ≡ t → g ≡ f → y ≡ x

@@ -25,10 +25,10 @@ use Rattle.paper.proofs.AvpsLaws.{avps_empty, avps-more, avps-one}
 use Rattle.paper.proofs.WrittenLaws.{one-written_again, written_again_alike}
 use Rattle.avp.specs.declared.cursor.Avp.{Avp}
 use Rattle.avp.specs.declared.cursor.Step.TheVariants.{Item, End}
-use Rattle.avp.specs.declared.write.Written.TheVariants.{UpTo, NoRoom}
+use Rattle.std.specs.Prelude.{Ok}
 use Rattle.avp.specs.Found.{data_of}
 use Rattle.avp.specs.Step.{avp_at, step_at}
-use Rattle.avp.specs.Written.{Came, came_to, has_room, avp_written}
+use Rattle.avp.specs.Written.{Came, not_written, came_to, has_room, avp_written}
 use Rattle.avp.proofs.StepLaws.{data_at, end-place, item-avp, item-framed, item-next}
 use Rattle.avp.proofs.WriteLaws.{size-written}
 use Rattle.promises.specs.Calls.{ReadAvpCall, WriteAvpCall}
@@ -54,16 +54,16 @@ inside : (w : WriteAvpCall) → room_for w ≡ true → w.at + length (bytes_of 
 unfolding has_room
 inside w e = leb-true (w.at + length (bytes_of w)) (length w.out) (and_parts (ltb (length w.body) 16777200) _ e).1
 
-stored : (w : WriteAvpCall) (to : ℕ) → w.result ≡ UpTo to → Stored w to
+stored : (w : WriteAvpCall) (to : ℕ) → w.result ≡ Ok to → Stored w to
 unfolding avp_written
 stored w to e = go (room_for w) refl (sym (ap (λ r. came_to r w.after) e) ∙ w.met)
   where
-    go : (b : Bool) → room_for w ≡ b → came_to (UpTo to) w.after ≡ cond b (came_to (UpTo (w.at + length (bytes_of w))) (put w.at (bytes_of w) w.out)) (came_to NoRoom w.out)
+    go : (b : Bool) → room_for w ≡ b → came_to (Ok to) w.after ≡ cond b (came_to (Ok (w.at + length (bytes_of w))) (put w.at (bytes_of w) w.out)) (came_to not_written w.out)
         → Stored w to
     go true h q =
-        let u : UpTo to ≡ UpTo (w.at + length (bytes_of w)) = ap (λ (c : Came). c.answer) q in
+        let u : Ok to ≡ Ok (w.at + length (bytes_of w)) = ap (λ (c : Came). c.answer) q in
         record { room = inside w h; next = cc; made = ap (λ (c : Came). c.out) q }
-    go false h q = let u : UpTo to ≡ NoRoom = ap (λ (c : Came). c.answer) q in let z : ◌≡◌ {A = ℕ} 0 1 = cc in absurd (omega arith)
+    go false h q = let u : Ok to ≡ not_written = ap (λ (c : Came). c.answer) q in let z : ◌≡◌ {A = ℕ} 0 1 = cc in absurd (omega arith)
 
 enough : (w : WriteAvpCall) → length w.body < 16777200 → w.at + (12 + length w.body + 3) ≤ length w.out → room_for w ≡ true
 unfolding has_room
@@ -282,7 +282,7 @@ write_host =
       code = 264;
       mandatory = true;
       body = 0x6D ∷ 0x6D ∷ 0x65 ∷ 0x32 ∷ [];
-      result = UpTo 12;
+      result = Ok 12;
       after = written-host;
       met = refl;
     }

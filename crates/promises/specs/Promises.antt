@@ -28,7 +28,6 @@ use Rattle.paper.specs.Untouched.{OnlyItsRecord, NoRecord, NoByte}
 use Rattle.paper.specs.Widened.{OneAvp, Inserted, Clear}
 use Rattle.avp.specs.declared.cursor.Avp.{Avp as AvpRead}
 use Rattle.avp.specs.declared.cursor.Step.TheVariants.{Item}
-use Rattle.avp.specs.declared.write.Written.TheVariants.{UpTo}
 use Rattle.dymosaw.specs.Serve.{said_by}
 use Rattle.promises.specs.Calls.{ServeCall, RequestCall, CorrectCall, EntryCall, ReadCall, ValidCall, HostCall, ReadAvpCall, WriteAvpCall, Call, Correction, SeenByC, SameServed, SameRequested, SameCorrected, SameEntered}
 use Rattle.promises.specs.Rewritten.{Again, Keeps, Rewritten, SameAvps}
@@ -226,7 +225,7 @@ AvpsAgain = (s out after : List ℕ) (n : ℕ) → Rewritten s n after 0 0 out �
 
 -- and an AVP is written where there is room for the longest header, the data and the most padding
 abbrev pub RoomEnough : Type 0
-RoomEnough = (w : WriteAvpCall) → length w.body < 16777200 → w.at + (12 + length w.body + 3) ≤ length w.out → (to : ℕ) × (w.result ≡ UpTo to)
+RoomEnough = (w : WriteAvpCall) → length w.body < 16777200 → w.at + (12 + length w.body + 3) ≤ length w.out → (to : ℕ) × (w.result ≡ Ok to)
 
 -- ---- 8. Nothing else is touched
 
