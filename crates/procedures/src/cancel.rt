@@ -49,7 +49,7 @@ fn put_entry(cancel: &mut [u8], at: usize, node: Node, kind: CancellationType, n
 }
 
 // A registered node is listed. "A name equal to the sender's is never listed."
-pub fn list_node(
+pub(crate) fn list_node(
     cancel: &mut [u8],
     at: usize,
     subscriber: Subscriber,
@@ -71,7 +71,7 @@ pub fn list_node(
 }
 
 // A node that is cancelled is listed.
-pub fn list_cancelled(
+pub(crate) fn list_cancelled(
     cancel: &mut [u8],
     at: usize,
     subscriber: Subscriber,
@@ -89,7 +89,7 @@ pub fn list_cancelled(
 }
 
 // The list of a ULR: the displaced node of the request's own interface first, then the other one, and zeros.
-pub fn list_updated(
+pub(crate) fn list_updated(
     cancel: &mut [u8],
     subscriber: Subscriber,
     own: Node,
@@ -106,7 +106,7 @@ pub fn list_updated(
 }
 
 // The list of a NOR: the node if it is cancelled, and zeros.
-pub fn list_notified(
+pub(crate) fn list_notified(
     cancel: &mut [u8],
     subscriber: Subscriber,
     node: Node,

@@ -47,7 +47,7 @@ fn mute(code: u32, failed: Option<Failed>) -> Refusal
 }
 
 // 5011: version not 1.
-pub fn version_test(noted: &Noted) -> Result<(), Refusal>
+pub(crate) fn version_test(noted: &Noted) -> Result<(), Refusal>
     ensures { Answers noted.now.request.now (version_test noted.now.request.now) result }
 {
     if noted.header.version == 1 {
@@ -57,7 +57,7 @@ pub fn version_test(noted: &Noted) -> Result<(), Refusal>
 }
 
 // 5015: the length field is not the bytes given, or they are no multiple of 4.
-pub fn length_test(noted: &Noted) -> Result<(), Refusal>
+pub(crate) fn length_test(noted: &Noted) -> Result<(), Refusal>
     ensures { Answers noted.now.request.now (length_test noted.now.request.now) result }
 {
     let n = noted.request.len();
@@ -68,7 +68,7 @@ pub fn length_test(noted: &Noted) -> Result<(), Refusal>
 }
 
 // 3008: E bit set.
-pub fn error_test(noted: &Noted) -> Result<(), Refusal>
+pub(crate) fn error_test(noted: &Noted) -> Result<(), Refusal>
     ensures { Answers noted.now.request.now (error_test noted.now.request.now) result }
 {
     if noted.header.flags / 32 % 2 == 1 {
@@ -78,7 +78,7 @@ pub fn error_test(noted: &Noted) -> Result<(), Refusal>
 }
 
 // 5014 or 5004: the first fault of the visit, shown by its head alone.
-pub fn fault_test(noted: &Noted, visit: Visit) -> Result<(), Refusal>
+pub(crate) fn fault_test(noted: &Noted, visit: Visit) -> Result<(), Refusal>
     ensures { visit ≡ told (view_of noted.now.request.now) → Answers noted.now.request.now (fault_test noted.now.request.now) result }
 {
     match visit {
@@ -88,7 +88,7 @@ pub fn fault_test(noted: &Noted, visit: Visit) -> Result<(), Refusal>
 }
 
 // 3007: another application.
-pub fn application_test(noted: &Noted) -> Result<(), Refusal>
+pub(crate) fn application_test(noted: &Noted) -> Result<(), Refusal>
     ensures { Answers noted.now.request.now (application_test noted.now.request.now) result }
 {
     if noted.header.application == APPLICATION {
@@ -98,7 +98,7 @@ pub fn application_test(noted: &Noted) -> Result<(), Refusal>
 }
 
 // 3001: no command of the profile.
-pub fn command_test(noted: &Noted) -> Result<(), Refusal>
+pub(crate) fn command_test(noted: &Noted) -> Result<(), Refusal>
     ensures { Answers noted.now.request.now (command_test noted.now.request.now) result }
 {
     match noted.command {
@@ -108,7 +108,7 @@ pub fn command_test(noted: &Noted) -> Result<(), Refusal>
 }
 
 // 5001: the first unknown AVP with M, where the visit has no fault.
-pub fn unsupported_test(noted: &Noted, visit: Visit) -> Result<(), Refusal>
+pub(crate) fn unsupported_test(noted: &Noted, visit: Visit) -> Result<(), Refusal>
     ensures { visit ≡ told (view_of noted.now.request.now) → fault_test noted.now.request.now ≡ none → Answers noted.now.request.now (unsupported_test noted.now.request.now) result }
 {
     match visit {
@@ -145,7 +145,7 @@ fn second_used(noted: &Noted) -> Option<Spot>
 }
 
 // 5009: the second of an AVP that the command uses, at the top or as an IMEI of Terminal-Information; the one that stands first.
-pub fn repeated_test(noted: &Noted) -> Result<(), Refusal>
+pub(crate) fn repeated_test(noted: &Noted) -> Result<(), Refusal>
     ensures { Answers noted.now.request.now (repeated_test noted.now.request.now) result }
 {
     let imei = noted.terminal_avps().second(&[IMEI]);
@@ -179,7 +179,7 @@ fn first_absent(noted: &Noted, required: &[Key]) -> Result<(), Refusal>
 }
 
 // 5005: a required AVP absent; the first in the profile's order.
-pub fn absent_test(noted: &Noted) -> Result<(), Refusal>
+pub(crate) fn absent_test(noted: &Noted) -> Result<(), Refusal>
     ensures { Answers noted.now.request.now (absent_test noted.now.request.now) result }
 {
     match noted.command {
@@ -199,7 +199,7 @@ fn value_test(right: bool, found: Option<Spot>) -> Result<(), Refusal>
 }
 
 // 5004: User-Name, Origin-Host, Visited-PLMN-Id, IMEI, in this order.
-pub fn values_test(noted: &Noted) -> Result<(), Refusal>
+pub(crate) fn values_test(noted: &Noted) -> Result<(), Refusal>
     ensures { Answers noted.now.request.now (values_test noted.now.request.now) result }
 {
     let user_name = noted.find_used(USER_NAME);
