@@ -31,7 +31,7 @@ pub fn records(t: &[u8]) -> &[[u8; layout::RECORD_SIZE]]
 // One record as it stands in the table, always a whole one.
 #[derive(Clone, Copy)]
 pub struct Record<'a> {
-    bytes: &'a [u8; layout::RECORD_SIZE],
+    pub bytes: &'a [u8; layout::RECORD_SIZE],
 }
 
 impl<'a> Record<'a> {
