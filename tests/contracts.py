@@ -1,6 +1,6 @@
 """contracts.py [--self-test]: no function that another crate or a caller can name is without a statement.
 
-Every `pub fn` of crates/*/src has an `ensures`. The public calls are those of crate dymosaw and of crate dymosaw_c, which hands two of them to C, in the
+Every `pub fn` and `pub(crate) fn` of crates/*/src has an `ensures`. The public calls are those of crate dymosaw and of crate dymosaw_c, which hands two of them to C, in the
 modules that their lib.rt make public: none of them has a `requires`, since C and any bytes come in there, and each has its row in docs/STATEMENTS.md, "Two
 outcomes allowed for one input". A call of crate dymosaw_c says word for word what the call of its name in crate dymosaw says, of which the promises speak.
 With --self-test damaged copies must each be found out.
@@ -38,7 +38,7 @@ def clauses_of(text, at):
 def public_functions(text):
     """(name, clauses) of each public function of a file."""
     bare = re.sub(r"//[^\n]*", "", text)
-    return [(f.group(1), clauses_of(bare, bare.index("(", f.end()))) for f in re.finditer(r'\bpub (?:const )?(?:extern "C" )?fn (\w+)', bare)]
+    return [(f.group(1), clauses_of(bare, bare.index("(", f.end()))) for f in re.finditer(r'\bpub(?:\(crate\))? (?:const )?(?:extern "C" )?fn (\w+)', bare)]
 
 
 def is_public(path, texts):

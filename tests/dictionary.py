@@ -1,9 +1,9 @@
 #!/usr/bin/env python3
-"""dictionary.py [--self-test] DOC CRATE: the frozen list, the code's arrays and the specification's rows are the same.
+"""dictionary.py [--self-test] DOC CRATE: the frozen list, the code's rows and the specification's rows are the same.
 
 DOC is docs/DICTIONARY.md, CRATE is crates/dictionary. Every row is compared (key, kind by type, and the name and type in the comments), as are
-the number of rows, their strict order and the counts that DOC states. One line is printed; the status is 1 where something differs, and the line
-names the first difference. With --self-test the comparison is run on damaged copies, and each damage must be found.
+the number of rows, their strict order, the numbers of the kinds and the counts that DOC states. One line is printed; the status is 1 where something
+differs, and the line names the first difference. With --self-test the comparison is run on damaged copies, and each damage must be found.
 """
 import os
 import re
@@ -20,6 +20,7 @@ KIND_OF_TYPE = {
     "IPFilterRule": "Any", "QoSFilterRule": "Any",
 }
 NOT_ENTERED = {(0, 279), (0, 284)}
+NUMBER_OF_KIND = {"Four": 4, "Eight": 8, "Any": 0, "Group": 1, "Closed": 2, "Unknown": 255}
 
 
 class Differs(Exception):
@@ -78,73 +79,75 @@ def check_counts(text, rows):
         expect(phrase in intro, f"document: the introduction does not say: {phrase}")
 
 
-def numbers_of_kinds(crate):
-    return {kind: int(number) for kind, number in re.findall(r"^number_of (\w+) = (\d+)$", read(f"{crate}/specs/Kinds.antt"), re.M)}
+def check_numbers(text):
+    """The numbers that specs/Kinds.antt gives the kinds."""
+    found = {kind: int(number) for kind, number in re.findall(r"^number_of (\w+) = (\d+)$", text, re.M)}
+    for kind, number in NUMBER_OF_KIND.items():
+        expect(found.get(kind) == number, f"the number of {kind}: {found.get(kind)}")
 
 
-def array(text, name):
-    """(number, comment) of each element of a constant array of rows.rt, which must hold nothing else."""
-    body = re.search(rf"const {name}: \[u\d+; {ROWS}\] = \[\n(.*?)\n\];", text, re.S)
-    expect(body, f"code: no array {name} of {ROWS}")
-    elements = [re.fullmatch(r"    (\d+), // (.*)", line) for line in body.group(1).split("\n")]
-    expect(all(elements), f"code: {name} has a line that is no element with its comment")
-    return [(int(element.group(1)), element.group(2)) for element in elements]
+def rows_of(text, start, line, what):
+    """(vendor, code, kind, comment) of each row between the line `start` and the line that closes the list, which must hold nothing else."""
+    body = re.search(rf"^{start}\n(.*?)\n *(?:\[\]|\];)$", text, re.S | re.M)
+    expect(body, f"{what}: no rows")
+    rows = [re.fullmatch(line, row) for row in body.group(1).split("\n")]
+    expect(all(rows), f"{what}: a line is no row with its comment")
+    return [(int(row.group(1)), int(row.group(2)), row.group(3), row.group(4)) for row in rows]
+
+
+def coded(text):
+    return rows_of(text, rf"pub static ROWS: \[Row; {ROWS}\] = rows!\[", r"    \((\d+), (\d+), (\w+)\), // (.*)", "the code")
 
 
 def specified(text):
-    """(vendor, code, kind, comment) of each row of specs/Rows.antt."""
-    body = re.search(r"^rows =\n(.*?)\n    \[\]$", text, re.S | re.M)
-    expect(body, "specification: no rows")
-    lines = [re.fullmatch(r"    row (\d+) (\d+) (\w+) ∷  -- (.*)", line) for line in body.group(1).split("\n")]
-    expect(all(lines), "specification: a line is no row with its comment")
-    return [(int(line.group(1)), int(line.group(2)), line.group(3), line.group(4)) for line in lines]
+    return rows_of(text, "rows =", r"    row (\d+) (\d+) (\w+) ∷  -- (.*)", "the specification")
 
 
 def compare(document, crate):
     text = read(document)
     rows = document_rows(text)
     check_order(rows)
-    code, numbers = read(f"{crate}/src/rows.rt"), numbers_of_kinds(crate)
-    keys, kinds, spec = array(code, "KEYS"), array(code, "KINDS"), specified(read(f"{crate}/specs/Rows.antt"))
-    for what, found in (("KEYS", keys), ("KINDS", kinds), ("the specification", spec)):
+    code, spec = coded(read(f"{crate}/src/rows.rt")), specified(read(f"{crate}/specs/Rows.antt"))
+    for what, found in (("the code", code), ("the specification", spec)):
         expect(len(found) == ROWS, f"{what}: {len(found)} rows, not {ROWS}")
-    for (vendor, code, name, kind, _, _), key, number, row in zip(rows, keys, kinds, spec):
-        means = "Closed" if (vendor, code) in NOT_ENTERED else KIND_OF_TYPE[kind]
-        expect(key == (vendor * 2**32 + code, name), f"KEYS at {name}: {key}")
-        expect(number == (numbers[means], f"{name}, {kind}"), f"KINDS at {name}: {number}")
-        expect(row == (vendor, code, means, f"{name}, {kind}"), f"the specification at {name}: {row}")
+    for (vendor, number, name, kind, _, _), in_code, in_spec in zip(rows, code, spec):
+        means = "Closed" if (vendor, number) in NOT_ENTERED else KIND_OF_TYPE[kind]
+        expect(in_code == (vendor, number, means, f"{name}, {kind}"), f"the code at {name}: {in_code}")
+        expect(in_spec == (vendor, number, means, f"{name}, {kind}"), f"the specification at {name}: {in_spec}")
+    check_numbers(read(f"{crate}/specs/Kinds.antt"))
     check_counts(text, rows)
 
 
 DOC, CODE, SPEC, KINDS = "DICTIONARY.md", "dictionary/src/rows.rt", "dictionary/specs/Rows.antt", "dictionary/specs/Kinds.antt"
-ULR_KEY, ULR_KIND, QOS_KEY, QOS_KIND = "    44732084389245, // ULR-Flags", "    4, // ULR-Flags,", "    44732084389244, // QoS", "    0, // QoS"
+ULR, QOS = "    (10415, 1405, ", "    (10415, 1404, "
 
 # Each damage: the file, the start of a line, the change of that line (one text for another; a second line: the two change places; none: it is
 # lost), and the start of the difference that must be named.
 DAMAGES = [
-    (DOC, "| 10415 | 1719 |", ("| 1719 |", "| 1720 |"), "KEYS at Third-Context-Identifier"),
-    (DOC, "| 10415 | 1405 |", ("Unsigned32", "Unsigned64"), "KINDS at ULR-Flags"),
-    (DOC, "| 10415 | 1405 |", ("Unsigned32", "Enumerated"), "KINDS at ULR-Flags"),
+    (DOC, "| 10415 | 1719 |", ("| 1719 |", "| 1720 |"), "the code at Third-Context-Identifier"),
+    (DOC, "| 10415 | 1405 |", ("Unsigned32", "Unsigned64"), "the code at ULR-Flags"),
+    (DOC, "| 10415 | 1405 |", ("Unsigned32", "Enumerated"), "the code at ULR-Flags"),
     (DOC, "| 10415 | 1405 |", ("Unsigned32", "Unsigned33"), "document: ULR-Flags has no type"),
-    (DOC, "| 10415 | 1405 |", ("ULR", "ULB"), "KEYS at ULB-Flags"),
+    (DOC, "| 10415 | 1405 |", ("ULR", "ULB"), "the code at ULB-Flags"),
     (DOC, "| 10415 | 1405 |", (" |  |", " |"), "document: no row of six cells"),
     (DOC, "| 10415 | 1405 |", None, "document: 324 rows"),
     (DOC, "| 10415 | 1405 |", "| 10415 | 1406 |", "document: ULR-Flags does not stand above ULA-Flags"),
     (DOC, "| 10415 | 1719 |", ("|  |", "| a doubt |"), "document: the introduction does not say: 48 rows"),
     (DOC, "| 10415 | 1719 |", ("7.3.1/1", "7.3.1/2"), "document: the introduction does not say: - 209 rows"),
     (DOC, "- 4 bytes,", ("(87)", "(88)"), "document: the introduction does not say: Unsigned32 (87)"),
-    (CODE, ULR_KEY, ("389245", "389246"), "KEYS at ULR-Flags"),
-    (CODE, ULR_KEY, ("ULR", "ULA"), "KEYS at ULR-Flags"),
-    (CODE, ULR_KEY, None, "KEYS: 324 rows"),
-    (CODE, ULR_KEY, QOS_KEY, "KEYS at QoS-Subscribed"),
-    (CODE, ULR_KIND, ("4,", "8,"), "KINDS at ULR-Flags"),
-    (CODE, ULR_KIND, None, "KINDS: 324 rows"),
-    (CODE, ULR_KIND, QOS_KIND, "KINDS at QoS-Subscribed"),
+    (CODE, ULR, ("1405", "1406"), "the code at ULR-Flags"),
+    (CODE, ULR, ("10415", "0"), "the code at ULR-Flags"),
+    (CODE, ULR, ("ULR", "ULA"), "the code at ULR-Flags"),
+    (CODE, ULR, None, "the code: 324 rows"),
+    (CODE, ULR, QOS, "the code at QoS-Subscribed"),
+    (CODE, ULR, ("Four", "Eight"), "the code at ULR-Flags"),
+    (CODE, ULR, ("Four", "Any"), "the code at ULR-Flags"),
+    (CODE, ULR, ("Unsigned32", "Unsigned64"), "the code at ULR-Flags"),
     (SPEC, "    row 10415 1719 ", ("1719", "1720"), "the specification at Third-Context-Identifier"),
     (SPEC, "    row 0 284 ", ("Closed", "Group"), "the specification at Proxy-Info"),
     (SPEC, "    row 10415 1719 ", None, "the specification: 324 rows"),
     (SPEC, "    row 10415 1404 ", "    row 10415 1405 ", "the specification at QoS-Subscribed"),
-    (KINDS, "number_of Eight = 8", ("8", "4"), "KINDS at Accounting-Sub-Session-Id"),
+    (KINDS, "number_of Eight = 8", ("8", "4"), "the number of Eight"),
 ]
 
 

@@ -36,7 +36,7 @@ ELSEWHERE = [
     ("crates/paper/specs/Attach.antt", None, "a closed example"),
     ("crates/paper/specs/Worked.antt", None, "01's worked examples"),
     ("crates/wire/s*/?umber.*", {256}, "the base in which bytes are digits"),
-    ("crates/correction/src/frame.rt", {20}, "the place of the change number in a correction's frame"),
+    ("crates/correction/src/judge.rt", {20}, "the place of the change number in a correction's frame"),
     ("crates/paper/specs/Correction.antt", {20}, "the same"),
 ]
 
@@ -104,15 +104,15 @@ def complaints(texts):
 
 # Each damage: a file, one text for another, and the complaint that is due.
 DAMAGES = [
-    ("crates/procedures/src/carry.rt", "asked.command == ULR", "asked.command == 316", "carry.rt:", "316"),
-    ("crates/procedures/src/carry.rt", "asked.command == ULR", "asked.command == 0x13C_u32", "carry.rt:", "316"),
-    ("crates/procedures/src/verdict.rt", "asked.command == NOR", "asked.command == 323u32", "verdict.rt:", "323"),
-    ("crates/request/src/tests.rt", "h.application == APPLICATION", "h.application == 16_777_251", "tests.rt:", "16777251"),
+    ("crates/procedures/src/carry.rt", "        ULR => {", "        316 => {", "carry.rt:", "316"),
+    ("crates/procedures/src/carry.rt", "        ULR => {", "        0x13C_u32 => {", "carry.rt:", "316"),
+    ("crates/procedures/src/verdict.rt", "        NOR => refuse_if", "        323u32 => refuse_if", "verdict.rt:", "323"),
+    ("crates/request/src/tests.rt", "header.application == APPLICATION", "header.application == 16_777_251", "tests.rt:", "16777251"),
     ("crates/procedures/src/cancel.rt", "put_zeros(cancel, 0, CANCEL_SIZE)", "put_zeros(cancel, 0, 136)", "cancel.rt:", "136"),
     ("crates/dymosaw/src/serve.rt", "entry_at(cancel, ENTRY_SIZE)", "entry_at(cancel, 68)", "serve.rt:", "68"),
-    ("crates/table/src/valid.rt", "from + layout::RECORD_SIZE", "from + 256", "valid.rt:", "256"),
+    ("crates/table/src/valid.rt", "layout::TABLE_HEADER + layout::RECORD_SIZE * n", "layout::TABLE_HEADER + 256 * n", "valid.rt:", "256"),
     ("crates/table/src/valid.rt", "layout::MOST_RECORDS < n", "240 < n", "valid.rt:", "240"),
-    ("crates/avp/src/find.rt", "0, ORIGIN_HOST)", "0, 264)", "find.rt:", "264"),
+    ("crates/avp/src/find.rt", ", ORIGIN_HOST)", ", Key { vendor: 0, code: 264 })", "find.rt:", "264"),
     ("crates/answer/src/parts.rt", "PUA_FLAGS, flags)", "1442, flags)", "parts.rt:", "1442"),
     ("crates/paper/specs/Table.antt", "leb (count_of t) most_records", "leb (count_of t) 240", "Table.antt:", "240"),
     ("crates/paper/specs/Request.antt", "(application_of m) application", "(application_of m) 16777251", "Request.antt:", "16777251"),

@@ -25,7 +25,7 @@ def main():
         functions = 0
         for source in glob.glob(f"{folder}/src/**/*.rt", recursive=True):
             with open(source, encoding="utf-8") as code:
-                functions += len(re.findall(r"^\s*(?:pub )?(?:extern \"C\" )?fn ", code.read(), re.M))
+                functions += len(re.findall(r"^\s*(?:pub(?:\(crate\))? )?(?:extern \"C\" )?fn ", code.read(), re.M))
         edits = len(glob.glob(f"{folder}/must-fail/*.edit"))
         each = sum(lines(f"{folder}/proofs/**/{name}.antt") for name in ("Invariants", "Answers", "Proof"))
         print(f"| `{crate}` | {functions} | {lines(f'{folder}/src/**/*.rt')} | {lines(f'{folder}/specs/**/*.antt')} | {lines(f'{folder}/proofs/**/*.antt')} | {each} | {edits} |")

@@ -21,7 +21,7 @@ BEHIND = re.compile(r"was not admitted|has no field|is not in scope|has no `")
 
 ERROR = re.compile(r"^(?:note: )?(?:\./)?((?:src|specs|proofs)/\S+?):(\d+):\d+: (error: )?(.*)$", re.M)
 OPEN = re.compile(r"^fn (\S+): no proof: .*did not prove (.*)$", re.M)
-SIGNATURE = re.compile(r"( *)(?:pub |abbrev |unfoldable |pattern |const |unsafe |extern \"C\" )*(?:fn (\w+)|([^\s(){}]+)(?: \{[^{}]*\}| \([^()]*\))* (?=:( |$)))")
+SIGNATURE = re.compile(r"( *)(?:pub |pub\(crate\) |abbrev |unfoldable |pattern |const |unsafe |extern \"C\" )*(?:fn (\w+)|([^\s(){}]+)(?: \{[^{}]*\}| \([^()]*\))* (?=:( |$)))")
 
 
 def read(path):

@@ -5,6 +5,7 @@ use mathlib.Core.Bool.{true}
 use mathlib.Core.List.{List}
 use Prim.Native.Nat.{ℕ, ◌≤◌}
 use lib.ListN.{length}
+use Rattle.std.specs.Prelude.{Option}
 use Rattle.paper.specs.Layout.{least_request, most_request, least_answer}
 use Rattle.paper.specs.Request.{is_name}
 use Rattle.paper.specs.Answer.{Reply}
@@ -13,7 +14,7 @@ use Rattle.paper.specs.declared.Failed.{Failed}
 use Rattle.paper.proofs.AnswerSizes.{ReplyTo, answer-bound, name-most}
 use Rattle.answer.specs.Ask.{AnswerAsk}
 
-pub answer-ask : (out m host realm : List ℕ) (failed : Failed) {y : Reply} → least_answer ≤ length out → least_request ≤ length m → length m ≤ most_request
+pub answer-ask : (out m host realm : List ℕ) (failed : Option Failed) {y : Reply} → least_answer ≤ length out → least_request ≤ length m → length m ≤ most_request
     → is_name host ≡ true → is_name realm ≡ true → ShownIn m failed → ReplyTo m y → AnswerAsk out m host realm failed y
 answer-ask out m host realm failed b l k h r f t =
     record {

@@ -1,13 +1,17 @@
 -- The bytes that the writers put, in the paper's words.
 -- Assumes nothing.
 use Rattle.std.specs.Prelude.{Bool, cond, ◌&&◌, List, [], ◌∷◌, ◌++◌, ℕ, eqb}
-use Rattle.std.proofs.Math.Option.{Option, none, some}
+use Rattle.std.specs.Prelude.{Option}
+use Rattle.std.proofs.Math.Option as Math
+use Rattle.std.proofs.Math.Option.{none, some}
 use Rattle.wire.specs.Number.{be}
 use Rattle.wire.specs.Put.{part}
 use Rattle.paper.specs.Avp.{Avp, as_received}
 use Rattle.paper.specs.Profile.{session_id, proxy_info, auth_session_state, origin_host, origin_realm, ambr, bandwidth_uplink, bandwidth_downlink, ula_flags}
 use Rattle.paper.specs.Request.{avps_of, find}
-use Rattle.paper.specs.Answer.{item, number_item, echoed, each_of, subscription_of}
+use Rattle.paper.specs.Answer.{item, number_item, echoed, each_of}
+use Rattle.paper.specs.Shown.{subscription_in}
+use Rattle.paper.specs.declared.Subscription.{Subscription}
 use Rattle.avp.specs.Found.{data_of}
 use Rattle.avp.specs.declared.cursor.Avp.{Avp as Read}
 
@@ -31,11 +35,11 @@ abbrev pub ambr_item : ℕ → ℕ → List ℕ
 ambr_item uplink downlink = item ambr (number_item bandwidth_uplink uplink ++ number_item bandwidth_downlink downlink)
 
 -- "ULA-Flags 1, and Subscription-Data unless skipped"
-abbrev pub ula_items : Bool → ℕ → ℕ → ℕ → List ℕ
-ula_items skip restriction uplink downlink = number_item ula_flags 1 ++ cond skip [] (subscription_of restriction uplink downlink)
+abbrev pub ula_items : Option Subscription → List ℕ
+ula_items subscription = number_item ula_flags 1 ++ subscription_in subscription
 
 -- what Failed-AVP holds
-unfoldable pub shown_bytes : Option Avp → List ℕ
+unfoldable pub shown_bytes : Math.Option Avp → List ℕ
 shown_bytes none = []
 shown_bytes (some a) = as_received a
 

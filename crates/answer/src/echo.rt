@@ -1,57 +1,45 @@
 // The parts of an answer that the request's own AVPs are copied to: Session-Id, the first, and each Proxy-Info in order, its data as received.
 // Both are written with M and without V, whatever was received.
-ghost use Rattle.std.specs.Prelude.{◌+◌, ◌≤◌, ◌<◌, length};
-ghost use Rattle.wire.specs.Put.{Wrote};
+ghost use Rattle.std.specs.Prelude.{◌<◌, length};
 ghost use Rattle.paper.specs.Reader.{avps};
 ghost use Rattle.paper.specs.Profile.{session_id, proxy_info};
 ghost use Rattle.paper.specs.Request.{find};
 ghost use Rattle.paper.specs.Answer.{echoed, each_of};
 ghost use Rattle.avp.specs.Found.{Inside};
+ghost use Rattle.avp.specs.Written.{Room, Appended};
 ghost use Rattle.answer.specs.Parts.{copied};
 
-use avp::cursor::{Avp, Cursor, Step};
-use avp::find::{Found, data, find};
-use avp::write::put_avp;
-use paper::profile::{PROXY_INFO, SESSION_ID};
+use avp::cursor::{Avp, Avps};
+use avp::find::find;
+use avp::write::Writer;
+use paper::keys::{PROXY_INFO, SESSION_ID};
 
 // Session-Id, if there is one among the AVPs of `s`.
-pub fn put_session_id(out: &mut [u8], at: usize, s: &[u8]) -> usize
-    requires { (length s.now < 16777200) × (at + length (echoed session_id (find session_id (avps 0 s.now))) ≤ length out.old) }
-    ensures { Wrote out.old at (echoed session_id (find session_id (avps 0 s.now))) out.new result }
+pub fn put_session_id(out: &mut Writer<'_>, s: &[u8])
+    requires { (length s.now < 16777200) × Room out.old (length (echoed session_id (find session_id (avps 0 s.now)))) }
+    ensures { Appended out.old (echoed session_id (find session_id (avps 0 s.now))) out.new }
 {
-    match find(s, 0, SESSION_ID) {
-        Found::At(a) => put_avp(out, at, 0, SESSION_ID, true, data(s, a)),
-        Found::Nothing => at,
+    if let Some(a) = find(s, SESSION_ID) {
+        out.put_avp(SESSION_ID, true, a.data(s));
     }
 }
 
 // The AVP `a` of `s`, if it is a Proxy-Info.
-fn put_if_proxy_info(out: &mut [u8], at: usize, s: &[u8], a: Avp) -> usize
-    requires { (length s.now < 16777200) × Inside s.now a × (at + length (copied s.now a) ≤ length out.old) }
-    ensures { Wrote out.old at (copied s.now a) out.new result }
+fn put_if_proxy_info(out: &mut Writer<'_>, s: &[u8], a: Avp)
+    requires { (length s.now < 16777200) × Inside s.now a × Room out.old (length (copied s.now a)) }
+    ensures { Appended out.old (copied s.now a) out.new }
 {
-    if (a.vendor == 0) & (a.code == PROXY_INFO) {
-        put_avp(out, at, 0, PROXY_INFO, true, data(s, a))
-    } else {
-        at
+    if a.key() == PROXY_INFO {
+        out.put_avp(PROXY_INFO, true, a.data(s));
     }
 }
 
 // Each Proxy-Info among the AVPs of `s`.
-pub fn put_proxy_infos(out: &mut [u8], at: usize, s: &[u8]) -> usize
-    requires { (length s.now < 16777200) × (at + length (each_of proxy_info (avps 0 s.now)) ≤ length out.old) }
-    ensures { Wrote out.old at (each_of proxy_info (avps 0 s.now)) out.new result }
+pub fn put_proxy_infos(out: &mut Writer<'_>, s: &[u8])
+    requires { (length s.now < 16777200) × Room out.old (length (each_of proxy_info (avps 0 s.now))) }
+    ensures { Appended out.old (each_of proxy_info (avps 0 s.now)) out.new }
 {
-    let mut c = Cursor::new();
-    let mut o = at;
-    loop {
-        match c.next(s) {
-            Step::End => return o,
-            Step::Bad { at: _ } => return o,
-            Step::Item { avp, next } => {
-                o = put_if_proxy_info(out, o, s, avp);
-                c = next;
-            }
-        }
+    for a in Avps::new(s) {
+        put_if_proxy_info(out, s, a);
     }
 }

@@ -1,124 +1,106 @@
 // The parts of an answer that do not come from the request: what it says, the own names, the AVPs of a success.
 ghost use Rattle.std.specs.Prelude.{◌+◌, ◌≤◌, length};
-ghost use Rattle.wire.specs.Put.{Wrote};
 ghost use Rattle.paper.specs.Layout.{most_name};
-ghost use Rattle.paper.specs.Answer.{result_item, restriction_item, subscription_of};
-ghost use Rattle.paper.specs.Shown.{verdict_of, extra_of};
+ghost use Rattle.paper.specs.Answer.{result_item, restriction_item};
+ghost use Rattle.paper.specs.Shown.{verdict_of, subscription_in, extra_of};
 ghost use Rattle.paper.specs.declared.Verdict.TheVariants.{Experimental};
+ghost use Rattle.avp.specs.Written.{Room, Appended};
 ghost use Rattle.answer.specs.Parts.{own_items, ambr_item, ula_items};
 
-use avp::write::{put_avp, put_group_head, put_number};
-use paper::profile::{
+use crate::reply::Own;
+use avp::write::Writer;
+use paper::keys::{
     ACCESS_RESTRICTION_DATA, AMBR, AUTH_SESSION_STATE, BANDWIDTH_DL, BANDWIDTH_UL,
     EXPERIMENTAL_RESULT, EXPERIMENTAL_RESULT_CODE, ORIGIN_HOST, ORIGIN_REALM, PUA_FLAGS,
-    RESULT_CODE, SUBSCRIBER_STATUS, SUBSCRIPTION_DATA, ULA_FLAGS, VENDOR_3GPP, VENDOR_ID,
+    RESULT_CODE, SUBSCRIBER_STATUS, SUBSCRIPTION_DATA, ULA_FLAGS, VENDOR_ID,
 };
-use paper::{ExperimentalCode, Extra, Verdict};
+use paper::profile::VENDOR_3GPP;
+use paper::{ExperimentalCode, Extra, Subscription, Verdict};
 
-// Experimental-Result: Vendor-Id and Experimental-Result-Code, 12 bytes each.
-fn put_experimental(out: &mut [u8], at: usize, code: ExperimentalCode) -> usize
-    requires { at + 32 ≤ length out.old }
-    ensures { Wrote out.old at (result_item (verdict_of (Experimental code))) out.new result }
+// Experimental-Result: Vendor-Id and Experimental-Result-Code.
+fn put_experimental(out: &mut Writer<'_>, code: ExperimentalCode)
+    requires { Room out.old 32 }
+    ensures { Appended out.old (result_item (verdict_of (Experimental code))) out.new }
 {
-    let a = put_group_head(out, at, 0, EXPERIMENTAL_RESULT, 24);
-    let b = put_number(out, a, 0, VENDOR_ID, VENDOR_3GPP);
-    put_number(out, b, 0, EXPERIMENTAL_RESULT_CODE, code.0)
+    let start = out.open_group(EXPERIMENTAL_RESULT);
+    out.put_number(VENDOR_ID, VENDOR_3GPP);
+    out.put_number(EXPERIMENTAL_RESULT_CODE, code.0);
+    out.close_group(EXPERIMENTAL_RESULT, start);
 }
 
 // Result-Code, or Experimental-Result.
-pub fn put_result(out: &mut [u8], at: usize, verdict: Verdict) -> usize
-    requires { at + 32 ≤ length out.old }
-    ensures { Wrote out.old at (result_item (verdict_of verdict)) out.new result }
+pub fn put_result(out: &mut Writer<'_>, verdict: Verdict)
+    requires { Room out.old 32 }
+    ensures { Appended out.old (result_item (verdict_of verdict)) out.new }
 {
     match verdict {
-        Verdict::Base(code) => put_number(out, at, 0, RESULT_CODE, code.0),
-        Verdict::Experimental(code) => put_experimental(out, at, code),
+        Verdict::Base(code) => out.put_number(RESULT_CODE, code.0),
+        Verdict::Experimental(code) => put_experimental(out, code),
     }
 }
 
 // Auth-Session-State 1, Origin-Host, Origin-Realm.
-pub fn put_own(out: &mut [u8], at: usize, host: &[u8], realm: &[u8]) -> usize
-    requires { (length host.now ≤ most_name) × (length realm.now ≤ most_name) × (at + length (own_items host.now realm.now) ≤ length out.old) }
-    ensures { Wrote out.old at (own_items host.now realm.now) out.new result }
+pub fn put_own(out: &mut Writer<'_>, own: Own<'_>)
+    requires { (length own.host.now ≤ most_name) × (length own.realm.now ≤ most_name) × Room out.old (length (own_items own.host.now own.realm.now)) }
+    ensures { Appended out.old (own_items own.entry.host.now own.entry.realm.now) out.new }
 {
-    let a = put_number(out, at, 0, AUTH_SESSION_STATE, 1);
-    let b = put_avp(out, a, 0, ORIGIN_HOST, true, host);
-    put_avp(out, b, 0, ORIGIN_REALM, true, realm)
+    out.put_number(AUTH_SESSION_STATE, 1);
+    out.put_avp(ORIGIN_HOST, true, own.host);
+    out.put_avp(ORIGIN_REALM, true, own.realm);
 }
 
-// AMBR: uplink, then downlink, 16 bytes each.
-fn put_ambr(out: &mut [u8], at: usize, uplink: u32, downlink: u32) -> usize
-    requires { at + 44 ≤ length out.old }
-    ensures { Wrote out.old at (ambr_item uplink downlink) out.new result }
+// AMBR: uplink, then downlink.
+fn put_ambr(out: &mut Writer<'_>, uplink: u32, downlink: u32)
+    requires { Room out.old 44 }
+    ensures { Appended out.old (ambr_item uplink downlink) out.new }
 {
-    let a = put_group_head(out, at, VENDOR_3GPP, AMBR, 32);
-    let b = put_number(out, a, VENDOR_3GPP, BANDWIDTH_UL, uplink);
-    put_number(out, b, VENDOR_3GPP, BANDWIDTH_DL, downlink)
+    let start = out.open_group(AMBR);
+    out.put_number(BANDWIDTH_UL, uplink);
+    out.put_number(BANDWIDTH_DL, downlink);
+    out.close_group(AMBR, start);
 }
 
 // Access-Restriction-Data if not 0.
-fn put_restriction(out: &mut [u8], at: usize, restriction: u32) -> usize
-    requires { at + 16 ≤ length out.old }
-    ensures { Wrote out.old at (restriction_item restriction) out.new result }
+fn put_restriction(out: &mut Writer<'_>, restriction: u32)
+    requires { Room out.old 16 }
+    ensures { Appended out.old (restriction_item restriction) out.new }
 {
-    if restriction == 0 {
-        at
-    } else {
-        put_number(out, at, VENDOR_3GPP, ACCESS_RESTRICTION_DATA, restriction)
+    if restriction != 0 {
+        out.put_number(ACCESS_RESTRICTION_DATA, restriction);
     }
 }
 
-// Subscription-Data. Its parts come first: whether there is a restriction decides its length.
-fn put_subscription(
-    out: &mut [u8],
-    at: usize,
-    restriction: u32,
-    uplink: u32,
-    downlink: u32,
-) -> usize
-    requires { at + 88 ≤ length out.old }
-    ensures { Wrote out.old at (subscription_of restriction uplink downlink) out.new result }
+// Subscription-Data.
+fn put_subscription(out: &mut Writer<'_>, subscription: Subscription)
+    requires { Room out.old 88 }
+    ensures { Appended out.old (subscription_in (Some subscription)) out.new }
 {
-    let start = at + 12;
-    let a = put_number(out, start, VENDOR_3GPP, SUBSCRIBER_STATUS, 0);
-    let b = put_restriction(out, a, restriction);
-    let end = put_ambr(out, b, uplink, downlink);
-    put_group_head(out, at, VENDOR_3GPP, SUBSCRIPTION_DATA, end - start);
-    end
+    let start = out.open_group(SUBSCRIPTION_DATA);
+    out.put_number(SUBSCRIBER_STATUS, 0);
+    put_restriction(out, subscription.restriction);
+    put_ambr(out, subscription.uplink, subscription.downlink);
+    out.close_group(SUBSCRIPTION_DATA, start);
 }
 
 // ULA-Flags 1, and Subscription-Data unless skipped.
-fn put_ula(
-    out: &mut [u8],
-    at: usize,
-    skip: bool,
-    restriction: u32,
-    uplink: u32,
-    downlink: u32,
-) -> usize
-    requires { at + (length (ula_items skip restriction uplink downlink) + 16) ≤ length out.old }
-    ensures { Wrote out.old at (ula_items skip restriction uplink downlink) out.new result }
+fn put_ula(out: &mut Writer<'_>, subscription: Option<Subscription>)
+    requires { Room out.old (length (ula_items subscription) + 16) }
+    ensures { Appended out.old (ula_items subscription) out.new }
 {
-    let a = put_number(out, at, VENDOR_3GPP, ULA_FLAGS, 1);
-    if skip {
-        return a;
+    out.put_number(ULA_FLAGS, 1);
+    if let Some(subscription) = subscription {
+        put_subscription(out, subscription);
     }
-    put_subscription(out, a, restriction, uplink, downlink)
 }
 
-// The AVPs of a success.
-pub fn put_extra(out: &mut [u8], at: usize, extra: Extra) -> usize
-    requires { at + (length (extra_of extra) + 16) ≤ length out.old }
-    ensures { Wrote out.old at (extra_of extra) out.new result }
+// The AVPs of a success that has some of its own.
+pub fn put_extra(out: &mut Writer<'_>, extra: Option<Extra>)
+    requires { Room out.old (length (extra_of extra) + 16) }
+    ensures { Appended out.old (extra_of extra) out.new }
 {
     match extra {
-        Extra::Nothing => at,
-        Extra::Ula {
-            skip,
-            restriction,
-            uplink,
-            downlink,
-        } => { put_ula(out, at, skip, restriction, uplink, downlink) }
-        Extra::Pua { flags } => put_number(out, at, VENDOR_3GPP, PUA_FLAGS, flags),
+        Some(Extra::Ula { subscription }) => put_ula(out, subscription),
+        Some(Extra::Pua { flags }) => out.put_number(PUA_FLAGS, flags),
+        None => {}
     }
 }

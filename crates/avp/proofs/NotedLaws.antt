@@ -1,242 +1,211 @@
--- The walk that notes the place of the first AVP of each key: what the places say at each step, and how one of them leads back to its AVP.
+-- The search that notes the place of the first AVP of each key: what the places say at each step, and how one of them leads back to its AVP.
 -- Assumes nothing.
 use mathlib.Core.Path.{◌≡◌, refl, sym, ap, ◌∙◌}
-use mathlib.Core.Bool.{Bool, true, false, cond, not, ◌&&◌}
-use mathlib.Core.Option.{Option, none, some}
+use mathlib.Core.Bool.{Bool, true, false, cond, ◌&&◌}
+use mathlib.Core.Option.{none, some}
+use mathlib.Core.Option as Paper
 use mathlib.Core.List.{List, [], ◌∷◌, map}
-use Prim.Native.Nat.{ℕ, zero, suc, ◌+◌, ◌-◌, ◌≤◌, ◌<◌}
-use native.Mathlib.Nat.{zero-add}
+use Prim.Native.Nat.{ℕ, zero, suc, ◌-◌, ◌≤◌, ◌<◌}
 use native.Mathlib.Omega.{arith}
-use lib.ListN.{length, drop, get_or, set, replicate, get_or-replicate, length-map, length-set, length-replicate, get_or-map}
+use lib.ListN.{length, drop, get_or, set, replicate, length-map, length-set, length-replicate}
 use lib.Seq.{get_or-set_same, get_or-set_other}
 use lib.Dec.{eqb}
-use borrow.Author.Tests.{eqb-true, eqb-false, eq-eqb, ne_eqb, le-leb, lt-leb}
+use borrow.Author.Tests.{eqb-true, eqb-false, eq-eqb, lt-leb}
+use Rattle.std.specs.Prelude.{Option, Some, None, is_some}
+use Rattle.std.specs.Option.{option_map, option_or}
+use Rattle.std.specs.List.{find}
+use Rattle.std.proofs.lemmas.List.{get_or-map, map-set}
+use Rattle.std.proofs.lemmas.Option.{none-some, same_Some}
 use Rattle.dictionary.specs.Rows.{key_of}
+use Rattle.dictionary.specs.declared.Key.{Key}
 use Rattle.paper.specs.Avp.{framed}
-use Rattle.paper.specs.Reader.{Placed, placed, avps}
-use Rattle.paper.specs.Find.{member, first_of, first_second}
+use Rattle.paper.specs.Reader.{Placed, avps}
+use Rattle.paper.specs.Find.{first_of, first_second}
 use Rattle.paper.proofs.AvpsLaws.{Stands, first_of_stands, stands_least}
-use Rattle.avp.specs.Step.{step_at}
-use Rattle.avp.specs.Found.{index_of, found_at, found_by, place_in, Noted}
+use Rattle.avp.specs.Step.{key_at, avp_at, step_at}
+use Rattle.avp.specs.Walk.{items}
+use Rattle.avp.specs.Found.{number, index_of, found_at, found_by, place_of, Noted}
 use Rattle.avp.specs.declared.cursor.Avp.{Avp}
-use Rattle.avp.specs.declared.cursor.Cursor.{Cursor}
-use Rattle.avp.specs.declared.cursor.Step.TheVariants.{Item, End, Bad}
-use Rattle.avp.proofs.StepLaws.{item-place, item_further, item-fits}
-use Rattle.avp.proofs.FindLaws.{walk_start, find-end, find_bad, find-here, find-later}
-use Rattle.avp.proofs.SecondLaws.{index_member, index_apart, member_index, Walked, walked_start, second-end, second_bad, second-other, second_mark}
+use Rattle.avp.proofs.FindLaws.{found_nothing}
+use Rattle.avp.proofs.WalkLaws.{keyed, find-first, second_in, second-first}
+use Rattle.avp.proofs.SecondLaws.{get_or-same, index_apart, index_below, Walked, walked_start, second_over, second-other, second_mark}
 
 -- ---- keys
 
 -- another key is not the AVP's
-other_key : (v c w d : ℕ) → (key_of v c ≡ key_of w d → ⊥) → eqb w v && eqb d c ≡ false
+other_key : (vendor code : ℕ) (a : Avp) → (key_of vendor code ≡ key_of a.vendor a.code → ⊥) → keyed vendor code a ≡ false
 unfolding key_of
-other_key v c w d n = go (eqb w v) (eqb d c) refl refl
+other_key vendor code a n = go (eqb a.code code) (eqb a.vendor vendor) refl refl
   where
-    go : (x y : Bool) → eqb w v ≡ x → eqb d c ≡ y → x && y ≡ false
-    go true true e f = let p = eqb-true w v e in let q = eqb-true d c f in absurd (n (omega arith))
+    go : (x y : Bool) → eqb a.code code ≡ x → eqb a.vendor vendor ≡ y → x && y ≡ false
+    go true true e f = let p = eqb-true a.code code e in let q = eqb-true a.vendor vendor f in absurd (n (omega arith))
     go true false e f = refl
     go false y e f = refl
 
 -- codes fit their half of the number, so one number is one key
-same_key : (v c w d : ℕ) → c < 4294967296 → d < 4294967296 → key_of v c ≡ key_of w d → eqb w v && eqb d c ≡ true
+same_key : (vendor code : ℕ) (a : Avp) → code < 4294967296 → a.code < 4294967296 → key_of vendor code ≡ key_of a.vendor a.code → keyed vendor code a ≡ true
 unfolding key_of
-same_key v c w d h k e = rw (eq-eqb w v (omega arith), eq-eqb d c (omega arith))
+same_key vendor code a h k e = rw (eq-eqb a.code code (omega arith), eq-eqb a.vendor vendor (omega arith))
 
 -- ---- the places
 
--- what is noted, and where nothing is, what the rest of the walk finds
-abbrev chosen : List ℕ → ℕ → ℕ → ℕ
-chosen s p later = cond (eqb p (length s)) later p
+-- where what was found stands
+abbrev place : Option Avp → Option ℕ
+place o = option_map (λ a. a.at) o
 
-chosen_open : (s : List ℕ) (p later : ℕ) → p ≡ length s → chosen s p later ≡ later
-chosen_open s p later e = rw (eq-eqb p (length s) e)
+place-found : (s : List ℕ) (f : Paper.Option Placed) → place (found_at s f) ≡ place_of f
+unfolding avp_at
+place-found s none = refl
+place-found s (some p) = refl
 
-chosen_set : (s : List ℕ) (p later : ℕ) → (p ≡ length s → ⊥) → chosen s p later ≡ p
-chosen_set s p later n = rw (ne_eqb p (length s) n)
+or_nothing : (p : Option ℕ) → option_or p None ≡ p
+or_nothing None = refl
+or_nothing (Some p) = refl
 
-chosen_last : (s : List ℕ) (p : ℕ) → chosen s p (length s) ≡ p
-chosen_last s p = go (eqb p (length s)) refl
-  where
-    go : (b : Bool) → eqb p (length s) ≡ b → cond b (length s) p ≡ p
-    go true e = sym (eqb-true p (length s) e)
-    go false e = refl
-
-first-here : (s : List ℕ) (at : ℕ) {o : Option Placed} → o ≡ some (placed (0 + at) (drop at s)) → place_in s o ≡ at
-unfolding placed
-first-here s at r = rw (r, zero-add at)
-
--- the walk over `s` stands at `at`
-pub record Noting (keys s places : List ℕ) (at : ℕ) : Type 0 where
+-- the search in the list `all` has come to `rest`
+pub record Noting (keys : List Key) (all : List Avp) (places : List (Option ℕ)) (rest : List Avp) : Type 0 where
   pub long : length keys ≤ length places
-  pub first : (vendor code : ℕ) → code < 4294967296 → member (key_of vendor code) keys ≡ true
-      → place_in s (first_of vendor code (avps 0 s))
-      ≡ chosen s (get_or places (index_of (key_of vendor code) keys) 0) (place_in s (first_of vendor code (avps (0 + at) (drop at s))))
+  pub first : (vendor code i : ℕ) → code < 4294967296 → index_of (key_of vendor code) keys ≡ Some i
+      → place (find (keyed vendor code) all) ≡ option_or (get_or places i None) (place (find (keyed vendor code) rest))
 
-pub noting_start : (keys s : List ℕ) (n : ℕ) {at : ℕ} → at ≡ 0 → length keys ≤ n → Noting keys s (replicate n (length s)) at
-noting_start keys s n {at} e h =
+pub noting_start : (keys : List Key) (n : ℕ) {all rest : List Avp} → rest ≡ all → length keys ≤ n → Noting keys all (replicate n None) rest
+noting_start keys n {rest} e h =
     record {
-      long = rw (length-replicate {A = ℕ} n (length s)) h;
-      first = λ vendor code k m.
-          let i = index_member (key_of vendor code) keys m in
-          ap (λ l. place_in s (first_of vendor code l)) (walk_start s e)
-          ∙ sym (chosen_open s _ (place_in s (first_of vendor code (avps (0 + at) (drop at s)))) (get_or-replicate n (index_of (key_of vendor code) keys) (length s) 0 (omega arith)));
+      long = rw (length-replicate {A = Option ℕ} n None) h;
+      first = λ vendor code i k m.
+          ap (λ (l : List Avp). place (find (keyed vendor code) l)) (sym e)
+          ∙ sym (ap (λ (p : Option ℕ). option_or p (place (find (keyed vendor code) rest))) (get_or-same {A = Option ℕ} n i None));
     }
 
-module _ (keys s places : List ℕ) (at : ℕ) (w : Noting keys s places at) where
-  noting_done : ((vendor code : ℕ) → first_of vendor code (avps (0 + at) (drop at s)) ≡ none) → Noted s keys places
-  noting_done f =
+module _ (keys : List Key) (all : List Avp) (places : List (Option ℕ)) {rest : List Avp} (w : Noting keys all places rest) where
+  pub noting_over : (s : List ℕ) → all ≡ items s (avps 0 s) → rest ≡ [] → Noted s keys places
+  noting_over s whole e =
       record {
         long = w.long;
-        first = λ vendor code k m.
-            let p = get_or places (index_of (key_of vendor code) keys) 0 in
-            sym (w.first vendor code k m ∙ ap (λ o. chosen s p (place_in s o)) (f vendor code) ∙ chosen_last s p);
+        first = λ vendor code i k m.
+            sym (ap place (sym (find-first s vendor code) ∙ ap (find (keyed vendor code)) (sym whole))
+            ∙ w.first vendor code i k m
+            ∙ ap (λ (l : List Avp). option_or (get_or places i None) (place (find (keyed vendor code) l))) e
+            ∙ or_nothing (get_or places i None))
+            ∙ place-found s (first_of vendor code (avps 0 s));
       }
 
-  pub noting_end : End ≡ step_at s at → Noted s keys places
-  noting_end e = noting_done (λ vendor code. find-end vendor code s at e)
-
-  pub noting_bad : {p : ℕ} → Bad p ≡ step_at s at → Noted s keys places
-  noting_bad e = noting_done (λ vendor code. find_bad vendor code s at e)
-
-  module _ {a : Avp} {next : Cursor} (e : Item a next ≡ step_at s at) where
+  module _ {a : Avp} {next : List Avp} (e : rest ≡ a ∷ next) where
     abbrev own : ℕ
     own = key_of a.vendor a.code
 
-    abbrev noted : ℕ → ℕ → ℕ
-    noted vendor code = get_or places (index_of (key_of vendor code) keys) 0
+    abbrev later : ℕ → ℕ → Option ℕ
+    later vendor code = place (find (keyed vendor code) next)
+
+    found_by-step : (vendor code : ℕ) {b : Bool} → keyed vendor code a ≡ b → find (keyed vendor code) rest ≡ cond b (Some a) (find (keyed vendor code) next)
+    found_by-step vendor code k = ap (find (keyed vendor code)) e ∙ rw k
 
     -- a key that is not the AVP's
-    kept : (vendor code : ℕ) → code < 4294967296 → member (key_of vendor code) keys ≡ true → (key_of vendor code ≡ own → ⊥)
-        → place_in s (first_of vendor code (avps 0 s)) ≡ chosen s (noted vendor code) (place_in s (first_of vendor code (avps (0 + next.at) (drop next.at s))))
-    kept vendor code k m n =
-        w.first vendor code k m
-        ∙ ap (λ o. chosen s (noted vendor code) (place_in s o)) (find-later vendor code s at e (other_key vendor code a.vendor a.code n))
+    kept : (vendor code i : ℕ) → code < 4294967296 → index_of (key_of vendor code) keys ≡ Some i → (key_of vendor code ≡ own → ⊥)
+        → place (find (keyed vendor code) all) ≡ option_or (get_or places i None) (later vendor code)
+    kept vendor code i k m n =
+        w.first vendor code i k m
+        ∙ ap (λ (o : Option Avp). option_or (get_or places i None) (place o)) (found_by-step vendor code (other_key vendor code a n))
 
-    module _ {i k : ℕ} (found : i ≡ index_of k keys) (is : k ≡ own) where
-      index : i ≡ index_of own keys
-      index = found ∙ ap (λ (x : ℕ). index_of x keys) is
-
+    module _ {k : Key} (is : k ≡ key_at a) where
       -- a key that is not looked for
-      pub noting_other : length keys ≤ i → Noting keys s places next.at
+      pub noting_other : None ≡ index_of (number k) keys → Noting keys all places next
       noting_other h =
           record {
             long = w.long;
-            first = λ vendor code c m.
-                kept vendor code c m
-                (λ q. let l = index_member (key_of vendor code) keys m in let j : index_of (key_of vendor code) keys ≡ i = ap (λ (x : ℕ). index_of x keys) q ∙ sym index in absurd (omega arith));
+            first = λ vendor code i c m.
+                kept vendor code i c m
+                (λ q. none-some i (h ∙ ap (λ (x : ℕ). index_of x keys) (ap number is ∙ sym q) ∙ m));
           }
 
-      module _ (inside : i < length keys) (narrow : a.code < 4294967296) where
-        is_key : member own keys ≡ true
-        is_key = member_index own keys (rw index at inside)
+      module _ {i : ℕ} (found : Some i ≡ index_of (number k) keys) (narrow : a.code < 4294967296) where
+        here : index_of own keys ≡ Some i
+        here = ap (λ (x : Key). index_of (number x) keys) (sym is) ∙ sym found
+
+        same_place : (vendor code j : ℕ) → index_of (key_of vendor code) keys ≡ Some j → key_of vendor code ≡ own → j ≡ i
+        same_place vendor code j m q = same_Some j i (sym m ∙ ap (λ (x : ℕ). index_of x keys) q ∙ here)
 
         -- a key that was met before
-        pub noting_again : (get_or places i 0 ≡ length s → ⊥) → Noting keys s places next.at
-        noting_again n = record { long = w.long; first = λ vendor code c m. go vendor code c m (eqb (key_of vendor code) own) refl }
+        pub noting_again : {p : ℕ} → get_or places i None ≡ Some p → Noting keys all places next
+        noting_again {p} n = record { long = w.long; first = λ vendor code j c m. go vendor code j c m (eqb (key_of vendor code) own) refl }
           where
-            go : (vendor code : ℕ) → code < 4294967296 → member (key_of vendor code) keys ≡ true → (b : Bool) → eqb (key_of vendor code) own ≡ b
-                → place_in s (first_of vendor code (avps 0 s)) ≡ chosen s (noted vendor code) (place_in s (first_of vendor code (avps (0 + next.at) (drop next.at s))))
-            go vendor code c m true q =
-                let j : index_of (key_of vendor code) keys ≡ i = ap (λ (x : ℕ). index_of x keys) (eqb-true _ _ q) ∙ sym index in
-                let p : noted vendor code ≡ length s → ⊥ = rw j n in
-                w.first vendor code c m ∙ chosen_set s (noted vendor code) _ p ∙ sym (chosen_set s (noted vendor code) _ p)
-            go vendor code c m false q = kept vendor code c m (eqb-false _ _ q)
+            go : (vendor code j : ℕ) → code < 4294967296 → index_of (key_of vendor code) keys ≡ Some j → (b : Bool) → eqb (key_of vendor code) own ≡ b
+                → place (find (keyed vendor code) all) ≡ option_or (get_or places j None) (later vendor code)
+            go vendor code j c m true q =
+                let l = same_place vendor code j m (eqb-true _ _ q) in
+                let t : get_or places j None ≡ Some p = rw l n in
+                w.first vendor code j c m ∙ rw t
+            go vendor code j c m false q = kept vendor code j c m (eqb-false _ _ q)
 
         -- a key that is met for the first time
-        pub noting_mark : get_or places i 0 ≡ length s → {p : ℕ} → p ≡ a.at → Noting keys s (set places i p) next.at
-        noting_mark o {p} place = record { long = rw (length-set places i p) w.long; first = λ vendor code c m. go vendor code c m (eqb (key_of vendor code) own) refl }
+        pub noting_mark : get_or places i None ≡ None → Noting keys all (set places i (Some a.at)) next
+        noting_mark o = record { long = rw (length-set places i (Some a.at)) w.long; first = λ vendor code j c m. go vendor code j c m (eqb (key_of vendor code) own) refl }
           where
             room : i < length places
-            room = let l = w.long in omega arith
+            room = let l = w.long in let b = index_below own keys here in omega arith
 
-            go : (vendor code : ℕ) → code < 4294967296 → member (key_of vendor code) keys ≡ true → (b : Bool) → eqb (key_of vendor code) own ≡ b
-                → place_in s (first_of vendor code (avps 0 s))
-                ≡ chosen s (get_or (set places i p) (index_of (key_of vendor code) keys) 0) (place_in s (first_of vendor code (avps (0 + next.at) (drop next.at s))))
-            go vendor code c m true q =
-                let j : index_of (key_of vendor code) keys ≡ i = ap (λ (x : ℕ). index_of x keys) (eqb-true _ _ q) ∙ sym index in
-                let here = find-here vendor code s at e (same_key vendor code a.vendor a.code c narrow (eqb-true _ _ q)) in
-                let f = item_further s at e in
-                let g = item-fits s at e in
-                let at_p : at ≡ p = sym (place ∙ item-place s at e) in
-                let x : get_or (set places i p) (index_of (key_of vendor code) keys) 0 ≡ p = rw j (get_or-set_same places i p 0 room) in
-                w.first vendor code c m
-                ∙ chosen_open s (noted vendor code) _ (rw j o)
-                ∙ first-here s at here
-                ∙ at_p
-                ∙ sym x
-                ∙ sym (chosen_set s (get_or (set places i p) (index_of (key_of vendor code) keys) 0) _ (λ (z : get_or (set places i p) (index_of (key_of vendor code) keys) 0 ≡ length s). absurd (omega arith)))
-            go vendor code c m false q =
-                let j : index_of (key_of vendor code) keys ≡ i → ⊥ =
-                λ t. index_apart (key_of vendor code) own keys m is_key (eqb-false _ _ q) (t ∙ index) in
-                rw (get_or-set_other places i (index_of (key_of vendor code) keys) p 0 j) (kept vendor code c m (eqb-false _ _ q))
+            go : (vendor code j : ℕ) → code < 4294967296 → index_of (key_of vendor code) keys ≡ Some j → (b : Bool) → eqb (key_of vendor code) own ≡ b
+                → place (find (keyed vendor code) all) ≡ option_or (get_or (set places i (Some a.at)) j None) (later vendor code)
+            go vendor code j c m true q =
+                let l = same_place vendor code j m (eqb-true _ _ q) in
+                let there = found_by-step vendor code (same_key vendor code a c narrow (eqb-true _ _ q)) in
+                let free : get_or places j None ≡ None = rw l o in
+                let noted : get_or (set places i (Some a.at)) j None ≡ Some a.at = rw l (get_or-set_same places i (Some a.at) None room) in
+                w.first vendor code j c m ∙ rw (free, noted) (ap place there)
+            go vendor code j c m false q =
+                rw (get_or-set_other places i j (Some a.at) None (λ t. eqb-false _ _ q (index_apart (key_of vendor code) own keys (rw t at m) here)))
+                (kept vendor code j c m (eqb-false _ _ q))
 
 -- ---- whether a key was met twice
 
--- the keys that have a place are the ones that were met
-abbrev pub is_noted : List ℕ → ℕ → Bool
-is_noted s p = not (eqb p (length s))
+-- the search for a second, where none was met: the keys that have a place are the ones that were met
+pub record Once (keys : List Key) (all : List Avp) (places : List (Option ℕ)) (rest : List Avp) : Type 0 where
+  pub walked : Walked keys all (map is_some places) rest
 
 map-replicate : {A B : Type 0} (f : A → B) (n : ℕ) (x : A) → map f (replicate n x) ≡ replicate n (f x)
 map-replicate f zero x = refl
 map-replicate f (suc n) x = ap (λ l. f x ∷ l) (map-replicate f n x)
 
-map-set : {A B : Type 0} (f : A → B) (l : List A) (i : ℕ) (x : A) → map f (set l i x) ≡ set (map f l) i (f x)
-map-set f [] i x = refl
-map-set f (y ∷ l) zero x = refl
-map-set f (y ∷ l) (suc i) x = ap (λ k. f y ∷ k) (map-set f l i x)
+pub once_start : (keys : List Key) (n : ℕ) {all rest : List Avp} → rest ≡ all → Once keys all (replicate n None) rest
+once_start keys n e = record { walked = rw (map-replicate is_some n None) (walked_start keys n e) }
 
--- the walk that looks for a second, where none was met
-pub record Once (keys s places : List ℕ) (at : ℕ) : Type 0 where
-  pub walked : Walked keys s (map (is_noted s) places) at
+module _ (keys : List Key) (all : List Avp) (places : List (Option ℕ)) {rest : List Avp} (o : Once keys all places rest) where
+  pub once_over : (s : List ℕ) → all ≡ items s (avps 0 s) → rest ≡ [] → first_second (map number keys) [] (avps 0 s) ≡ none
+  once_over s whole e =
+      found_nothing s (first_second (map number keys) [] (avps 0 s))
+      (sym (sym (second-first s (map number keys)) ∙ ap (second_in (map number keys) []) (sym whole) ∙ second_over keys all (map is_some places) o.walked e))
 
-pub once_start : (keys s : List ℕ) (n : ℕ) {at : ℕ} → at ≡ 0 → Once keys s (replicate n (length s)) at
-once_start keys s n e =
-    let f : is_noted s (length s) ≡ false = rw (eq-eqb (length s) (length s) refl) in
-    record { walked = rw (map-replicate (is_noted s) n (length s), f) (walked_start keys s n e) }
+  module _ {a : Avp} {next : List Avp} (e : rest ≡ a ∷ next) {k : Key} (is : k ≡ key_at a) where
+    pub once_other : None ≡ index_of (number k) keys → Once keys all places next
+    once_other h = record { walked = second-other keys all (map is_some places) o.walked e is h }
 
-module _ (keys s places : List ℕ) (at : ℕ) (o : Once keys s places at) where
-  pub once_end : End ≡ step_at s at → first_second keys [] (avps 0 s) ≡ none
-  once_end e = second-end keys s (map (is_noted s) places) at o.walked e
-
-  pub once_bad : {p : ℕ} → Bad p ≡ step_at s at → first_second keys [] (avps 0 s) ≡ none
-  once_bad e = second_bad keys s (map (is_noted s) places) at o.walked e
-
-  module _ {a : Avp} {next : Cursor} (e : Item a next ≡ step_at s at) {i k : ℕ} (found : i ≡ index_of k keys) (is : k ≡ key_of a.vendor a.code) where
-    pub once_other : length keys ≤ i → Once keys s places next.at
-    once_other h = record { walked = second-other keys s (map (is_noted s) places) at o.walked e found is h }
-
-    pub once_mark : i < length keys → i < length places → get_or places i 0 ≡ length s → {p : ℕ} → p ≡ a.at → Once keys s (set places i p) next.at
-    once_mark inside room free {p} place =
-        let f = item_further s at e in
-        let g = item-fits s at e in
-        let q = place ∙ item-place s at e in
-        let set-one : is_noted s p ≡ true = rw (ne_eqb p (length s) (λ z. absurd (omega arith))) in
-        let flag : get_or (map (is_noted s) places) i false ≡ false = flag_open free in
-        record { walked = rw (map-set (is_noted s) places i p, set-one) (second_mark keys s (map (is_noted s) places) at o.walked e found is inside (rw (length-map places (is_noted s)) room) flag) }
-      where
-        get_d_below : (l : List Bool) (j : ℕ) (x y : Bool) → j < length l → get_or l j x ≡ get_or l j y
-        get_d_below [] j x y h = absurd (omega arith)
-        get_d_below (b ∷ l) zero x y h = refl
-        get_d_below (b ∷ l) (suc j) x y h = get_d_below l j x y (omega arith)
-
-        flag_open : get_or places i 0 ≡ length s → get_or (map (is_noted s) places) i false ≡ false
-        flag_open z =
-            get_d_below (map (is_noted s) places) i false (is_noted s 0) (rw (length-map places (is_noted s)) room)
-            ∙ get_or-map (is_noted s) places i 0
-            ∙ rw (eq-eqb (get_or places i 0) (length s) z)
+    pub once_mark : {i : ℕ} → Some i ≡ index_of (number k) keys → length keys ≤ length places → get_or places i None ≡ None → (p : ℕ) → Once keys all (set places i (Some p)) next
+    once_mark {i} found room free p =
+        let below = index_below (number k) keys (sym found) in
+        let flag = get_or-map is_some places i None false (omega arith) ∙ ap is_some free in
+        record {
+          walked = rw (map-set is_some places i (Some p))
+              (second_mark keys all (map is_some places) o.walked e is found (rw (length-map places is_some) room) flag);
+        }
 
 -- ---- from a place to its AVP
 
 -- the step at the place of what was found comes to it
-pub noted_found : (s : List ℕ) (vendor code : ℕ) {p : ℕ} → p ≡ place_in s (first_of vendor code (avps 0 s)) → found_by (step_at s p) ≡ found_at s (first_of vendor code (avps 0 s))
+pub noted_found : (s : List ℕ) (vendor code : ℕ) {p : ℕ} → Some p ≡ place_of (first_of vendor code (avps 0 s)) → found_by (step_at s p) ≡ found_at s (first_of vendor code (avps 0 s))
 unfolding step_at
 noted_found s vendor code e = go (first_of vendor code (avps 0 s)) (first_of_stands vendor code 0 s) e
   where
-    go : (o : Option Placed) → ((q : Placed) → o ≡ some q → Stands 0 s q) → {p : ℕ} → p ≡ place_in s o → found_by (step_at s p) ≡ found_at s o
-    go none t {p} e = rw (le-leb (length s) p (omega arith))
+    go : (o : Paper.Option Placed) → ((q : Placed) → o ≡ some q → Stands 0 s q) → {p : ℕ} → Some p ≡ place_of o → found_by (step_at s p) ≡ found_at s o
+    go none t {p} e = absurd (none-some p (sym e))
     go (some q) t {p} e =
         let here = t q refl in
         let l = stands_least 0 s q here in
+        let m = same_Some p q.at e in
         let z : q.at - 0 ≡ p = omega arith in
         let f : framed (drop p s) ≡ true = rw z at here.right in
-        rw (lt-leb (length s) p (omega arith), f) (ap (λ (x : ℕ). found_at s (some (record { at = x; end = q.end; avp = q.avp }))) e)
+        rw (lt-leb (length s) p (omega arith), f) (ap (λ (x : ℕ). found_at s (some (record { at = x; end = q.end; avp = q.avp }))) m)
+
+-- no place, and nothing was found
+pub noted_nothing : (s : List ℕ) (f : Paper.Option Placed) → None ≡ place_of f → None ≡ found_at s f
+noted_nothing s none e = refl
+noted_nothing s (some p) e = absurd (none-some p.at e)

@@ -11,7 +11,7 @@ use lib.Dec.{leb}
 use borrow.Author.Tests.{le-leb, lt-leb, leb-true, leb-false}
 use Rattle.wire.specs.Number.{num_at}
 use Rattle.paper.specs.Avp.{head_size, padded, flags_of, length_of, has_v, framed, body_of}
-use Rattle.paper.specs.Reader.{Avps, whole, broken, more, placed, stump, avps}
+use Rattle.paper.specs.Reader.{Placed, Avps, whole, broken, more, placed, stump, avps}
 use Rattle.paper.proofs.AvpLaws.{head_size-least, padded-least, framed-sizes, framed_takes, sizes-framed, short_unframed, outside_unframed, stump_unframed, code_at, flags-at, length_at, vendor-at, body_at, after-at, framed_at}
 use Rattle.paper.proofs.AvpsLaws.{avps_empty, avps-more, avps-broken}
 use Rattle.avp.specs.Step.{avp_at, step_at}
@@ -180,3 +180,10 @@ module _ (base : ℕ) (s : List ℕ) (at : ℕ) where
       → avps (base + at) (drop at s) ≡ more (placed (base + at) (drop at s)) (avps (base + next.at) (drop next.at s))
   avps-item {a} {next} e =
       avps-after base s at (Item a next) e ∙ ap (λ (k : ℕ). more (placed (base + k) (drop k s)) (avps (base + next.at) (drop next.at s))) (item-place s at e)
+
+  -- where no AVP stands the list ends or breaks off
+  pub avps_over : {x : Step} → x ≡ step_at s at → ((a : Avp) (next : Cursor) → x ≡ Item a next → ⊥)
+      → {A : Type 0} (f : Avps → A) (r : A) → f whole ≡ r → ((p : Placed) → f (broken p) ≡ r) → f (avps (base + at) (drop at s)) ≡ r
+  avps_over {x = End} e n f r w b = ap f (avps-end e) ∙ w
+  avps_over {x = Bad p} e n f r w b = ap f (avps_bad e) ∙ b (stump (base + at) (drop at s))
+  avps_over {x = Item a next} e n f r w b = absurd (n a next refl)

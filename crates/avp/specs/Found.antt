@@ -1,44 +1,47 @@
 -- What a search answers, and the part of the stretch that holds an AVP's data.
 -- Assumes nothing.
-use Rattle.std.specs.Prelude.{◌≡◌, true, cond, List, [], ◌∷◌, ℕ, zero, suc, ◌-◌, ◌≤◌, ◌<◌, length, get_or, eqb}
-use Rattle.std.proofs.Math.Option.{Option, none, some}
+use Rattle.std.specs.Prelude.{◌≡◌, List, ℕ, ◌-◌, ◌≤◌, ◌<◌, length, get_or, eqb, Option, Some, None}
+use Rattle.std.specs.List.{position}
+use Rattle.std.proofs.Math.Option.{none, some}
+use Rattle.std.proofs.Math.Option as Paper
 use Rattle.wire.specs.Put.{part}
 use Rattle.dictionary.specs.Rows.{key_of}
+use Rattle.dictionary.specs.declared.Key.{Key}
 use Rattle.paper.specs.Reader.{Placed, avps}
-use Rattle.paper.specs.Find.{member, first_of}
+use Rattle.paper.specs.Find.{first_of}
 use Rattle.avp.specs.Step.{avp_at}
 use Rattle.avp.specs.declared.cursor.Avp.{Avp}
 use Rattle.avp.specs.declared.cursor.Step.{Step}
 use Rattle.avp.specs.declared.cursor.Step.TheVariants.{Item, End, Bad}
-use Rattle.avp.specs.declared.find.Found.{Found}
-use Rattle.avp.specs.declared.find.Found.TheVariants.{At, Nothing}
 
 -- the answer for what the paper finds among the AVPs of `s`, whose places count from its start
-abbrev pub found_at : List ℕ → Option Placed → Found
-found_at s none = Nothing
-found_at s (some p) = At (avp_at s p.at)
+abbrev pub found_at : List ℕ → Paper.Option Placed → Option Avp
+found_at s none = None
+found_at s (some p) = Some (avp_at s p.at)
 
--- the index of the first key that is `k`; the number of keys where there is none
-unfoldable pub index_of : ℕ → List ℕ → ℕ
-index_of k [] = zero
-index_of k (x ∷ xs) = cond (eqb k x) zero (suc (index_of k xs))
+-- a key's number, which the paper counts it by
+abbrev pub number : Key → ℕ
+number k = key_of k.vendor k.code
+
+-- the index of the first key with the number `k`
+abbrev pub index_of : ℕ → List Key → Option ℕ
+index_of k keys = position (λ x. eqb (number x) k) keys
 
 -- the answer that a step comes to
-abbrev pub found_by : Step → Found
-found_by (Item a next) = At a
-found_by End = Nothing
-found_by (Bad p) = Nothing
+abbrev pub found_by : Step → Option Avp
+found_by (Item a next) = Some a
+found_by End = None
+found_by (Bad p) = None
 
--- where what was found among the AVPs of `s` stands; the length of `s` where nothing was
-abbrev pub place_in : List ℕ → Option Placed → ℕ
-place_in s none = length s
-place_in s (some p) = p.at
+-- where what was found stands
+abbrev pub place_of : Paper.Option Placed → Option ℕ
+place_of none = None
+place_of (some p) = Some p.at
 
 -- `places` has by the index of each key the place of its first AVP
-pub record Noted (s keys places : List ℕ) : Type 0 where
+pub record Noted (s : List ℕ) (keys : List Key) (places : List (Option ℕ)) : Type 0 where
   pub long : length keys ≤ length places
-  pub first : (vendor code : ℕ) → code < 4294967296 → member (key_of vendor code) keys ≡ true
-      → get_or places (index_of (key_of vendor code) keys) 0 ≡ place_in s (first_of vendor code (avps 0 s))
+  pub first : (vendor code i : ℕ) → code < 4294967296 → index_of (key_of vendor code) keys ≡ Some i → get_or places i None ≡ place_of (first_of vendor code (avps 0 s))
 
 -- the AVP's data lies inside the stretch, behind its place
 pub record Inside (s : List ℕ) (a : Avp) : Type 0 where

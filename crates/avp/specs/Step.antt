@@ -2,6 +2,7 @@
 -- Assumes nothing.
 use Rattle.std.specs.Prelude.{cond, List, ℕ, ◌+◌, length, drop, leb}
 use Rattle.paper.specs.Avp.{head_size, padded, code_of, flags_of, length_of, vendor_of, framed}
+use Rattle.dictionary.specs.declared.Key.{Key}
 use Rattle.avp.specs.declared.cursor.Avp.{Avp}
 use Rattle.avp.specs.declared.cursor.Step.{Step}
 use Rattle.avp.specs.declared.cursor.Step.TheVariants.{Item, End, Bad}
@@ -16,6 +17,10 @@ avp_at s at = record {
   start = at + head_size (flags_of (drop at s));
   end = at + length_of (drop at s);
 }
+
+-- "An AVP's key is (vendor, code)"
+abbrev pub key_at : Avp → Key
+key_at a = record { vendor = a.vendor; code = a.code }
 
 -- nothing past the end; an AVP that lies inside the stretch, and the place behind its padding; else a fault
 unfoldable pub step_at : List ℕ → ℕ → Step

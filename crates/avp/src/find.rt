@@ -1,165 +1,107 @@
 // AVPs looked for at the top level of a stretch: the first of a key, the places of the first of several keys by one walk, the first that is a second
 // of a key of a set, and their data as a part of the caller's own slice. A stretch that breaks off is looked through as far as it can be read.
-ghost use Rattle.std.specs.Prelude.{◌≡◌, false, ◌&&◌, [], ◌≤◌, ◌<◌, eqb, length};
+ghost use Rattle.std.specs.Prelude.{◌≡◌, false, [], ◌≤◌, ◌<◌, length, map};
 ghost use Rattle.std.proofs.Math.Option.{none};
 ghost use Rattle.paper.specs.Reader.{avps};
 ghost use Rattle.paper.specs.Find.{first_of, first_second, body_found, origin_host};
 ghost use Rattle.avp.specs.Step.{step_at};
-ghost use Rattle.avp.specs.Found.{index_of, found_at, found_by, Noted, Inside, data_of};
+ghost use Rattle.avp.specs.Found.{number, index_of, found_at, found_by, Noted};
 
-use crate::cursor::{Avp, Cursor, Step};
-use dictionary::key_of;
+use crate::cursor::{Avp, Avps, Cursor, Step};
+use dictionary::Key;
+use paper::keys::ORIGIN_HOST;
 use paper::layout::MESSAGE_HEADER;
-use paper::profile::ORIGIN_HOST;
-
-#[derive(Clone, Copy)]
-pub enum Found {
-    At(Avp),
-    Nothing,
-}
-
-fn has_key(a: Avp, vendor: u32, code: u32) -> bool
-    ensures { result ≡ (eqb a.vendor vendor && eqb a.code code) }
-{
-    (a.vendor == vendor) & (a.code == code)
-}
 
 // The first AVP of a key.
-pub fn find(s: &[u8], vendor: u32, code: u32) -> Found
-    ensures { result ≡ found_at s.now (first_of vendor code (avps 0 s.now)) }
+pub fn find(s: &[u8], key: Key) -> Option<Avp>
+    ensures { result ≡ found_at s.now (first_of key.vendor key.code (avps 0 s.now)) }
 {
-    let mut c = Cursor::new();
-    loop {
-        match c.next(s) {
-            Step::End => return Found::Nothing,
-            Step::Bad { at: _ } => return Found::Nothing,
-            Step::Item { avp, next } => {
-                if has_key(avp, vendor, code) {
-                    return Found::At(avp);
-                }
-                c = next;
-            }
-        }
-    }
+    Avps::new(s).find(|a| a.key() == key)
 }
 
-// The index of the first key that is `key`; the number of keys where there is none.
-pub fn index_of(keys: &[u64], key: u64) -> usize
-    ensures { result ≡ index_of key keys.now }
+// The index of the first key that is `key`: by number, as the paper counts keys, since `==` would not tell that each code of the list fits its half.
+pub fn index_of(keys: &[Key], key: Key) -> Option<usize>
+    ensures index { result ≡ index_of (number key) keys.now }
+    ensures code_bound { key.code < 4294967296 }
 {
-    let mut i = 0;
-    while i < keys.len() {
-        if keys[i] == key {
-            return i;
-        }
-        i += 1;
-    }
-    i
+    let number = key.number();
+    keys.iter().position(|k| k.number() == number)
 }
 
 // The first AVP that is a second of any of the keys, by one walk: `met` says by the index of a key that it was met.
-pub fn first_second(s: &[u8], keys: &[u64]) -> Found
+pub fn first_second(s: &[u8], keys: &[Key]) -> Option<Avp>
     requires { length keys.now ≤ 16 }
-    ensures { result ≡ found_at s.now (first_second keys.now [] (avps 0 s.now)) }
+    ensures { result ≡ found_at s.now (first_second (map number keys.now) [] (avps 0 s.now)) }
 {
     let mut met = [false; 16];
-    let mut c = Cursor::new();
-    loop {
-        match c.next(s) {
-            Step::End => return Found::Nothing,
-            Step::Bad { at: _ } => return Found::Nothing,
-            Step::Item { avp, next } => {
-                let i = index_of(keys, key_of(avp.vendor, avp.code));
-                if i < keys.len() {
-                    if met[i] {
-                        return Found::At(avp);
-                    }
-                    met[i] = true;
-                }
-                c = next;
+    for avp in Avps::new(s) {
+        if let Some(i) = index_of(keys, avp.key()) {
+            if met[i] {
+                return Some(avp);
             }
+            met[i] = true;
         }
     }
+    None
 }
 
-// Where the first AVP of each of some keys stands, by the index of the key; the stretch's length where no AVP has it.
-#[derive(Clone, Copy)]
+// Where the first AVP of each of some keys stands, by the index of the key.
+#[derive(Clone, Copy, Debug, PartialEq, Eq)]
 pub struct Firsts {
     // A key was met twice.
     pub again: bool,
-    pub places: [usize; 16],
+    pub places: [Option<usize>; 16],
 }
 
 // The places of the first AVPs of the keys, by one walk.
-pub fn first_places(s: &[u8], keys: &[u64]) -> Firsts
+pub fn first_places(s: &[u8], keys: &[Key]) -> Firsts
     requires { length keys.now ≤ 16 }
     ensures noted { Noted s.now keys.now result.places }
-    ensures unrepeated { result.again ≡ false → first_second keys.now [] (avps 0 s.now) ≡ none }
+    ensures unrepeated { result.again ≡ false → first_second (map number keys.now) [] (avps 0 s.now) ≡ none }
 {
-    let end = s.len();
-    let mut places = [end; 16];
+    let mut places = [None; 16];
     let mut again = false;
-    let mut c = Cursor::new();
-    loop {
-        match c.next(s) {
-            Step::End => return Firsts { again, places },
-            Step::Bad { at: _ } => return Firsts { again, places },
-            Step::Item { avp, next } => {
-                let i = index_of(keys, key_of(avp.vendor, avp.code));
-                if i < keys.len() {
-                    if places[i] == end {
-                        places[i] = avp.at;
-                    } else {
-                        again = true;
-                    }
-                }
-                c = next;
+    for avp in Avps::new(s) {
+        if let Some(i) = index_of(keys, avp.key()) {
+            match places[i] {
+                None => places[i] = Some(avp.at),
+                Some(_) => again = true,
             }
         }
     }
+    Firsts { again, places }
 }
 
 // The AVP at a place, if one stands there.
-fn found_at(s: &[u8], at: usize) -> Found
+fn found_at(s: &[u8], at: usize) -> Option<Avp>
     ensures { result ≡ found_by (step_at s.now at) }
 {
     let c = Cursor { at };
     match c.next(s) {
-        Step::Item { avp, next: _ } => Found::At(avp),
-        Step::End => Found::Nothing,
-        Step::Bad { at: _ } => Found::Nothing,
+        Step::Item { avp, next: _ } => Some(avp),
+        Step::End | Step::Bad { at: _ } => None,
     }
 }
 
 // The first AVP of a key: by its place where the key is one of those that were noted, else by a walk.
-pub fn find_noted(s: &[u8], keys: &[u64], places: &[usize], vendor: u32, code: u32) -> Found
+// Keys and places come apart: who holds the places has the keys as a static, so that a value with both would be no plainer.
+pub fn find_noted(s: &[u8], keys: &[Key], places: &[Option<usize>], key: Key) -> Option<Avp>
     requires { Noted s.now keys.now places.now }
-    ensures { result ≡ found_at s.now (first_of vendor code (avps 0 s.now)) }
+    ensures { result ≡ found_at s.now (first_of key.vendor key.code (avps 0 s.now)) }
 {
-    let i = index_of(keys, key_of(vendor, code));
-    if i < keys.len() {
-        return found_at(s, places[i]);
-    }
-    find(s, vendor, code)
-}
-
-// The data of an AVP of `s`.
-pub fn data(s: &[u8], a: Avp) -> &[u8]
-    requires { Inside s.now a }
-    ensures { result.now ≡ data_of s.now a }
-{
-    let start = a.start;
-    let end = a.end;
-    &s[start..end]
+    let Some(i) = index_of(keys, key) else {
+        return find(s, key);
+    };
+    found_at(s, places[i]?)
 }
 
 // The data of the first AVP of a key, and an empty part where there is none.
-pub fn found_data(s: &[u8], vendor: u32, code: u32) -> &[u8]
-    ensures { result.now ≡ body_found (first_of vendor code (avps 0 s.now)) }
+pub fn found_data(s: &[u8], key: Key) -> &[u8]
+    ensures { result.now ≡ body_found (first_of key.vendor key.code (avps 0 s.now)) }
 {
-    match find(s, vendor, code) {
-        Found::At(a) => data(s, a),
-        Found::Nothing => &s[..0],
+    match find(s, key) {
+        Some(a) => a.data(s),
+        None => &s[..0],
     }
 }
 
@@ -170,5 +112,5 @@ pub fn origin_host(m: &[u8]) -> &[u8]
     if m.len() < MESSAGE_HEADER {
         return &m[..0];
     }
-    found_data(&m[MESSAGE_HEADER..], 0, ORIGIN_HOST)
+    found_data(&m[MESSAGE_HEADER..], ORIGIN_HOST)
 }

@@ -1,3 +1,3 @@
-pub mod FrameLaws
+pub mod KindLaws
 pub mod JudgeLaws
 pub mod StoreLaws

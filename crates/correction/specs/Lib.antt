@@ -1,1 +1,3 @@
-pub mod Answer
+pub mod Judged
+pub mod Kind
+pub mod Refusal

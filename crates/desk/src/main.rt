@@ -8,13 +8,6 @@ ghost use Rattle.paper.specs.Desk.{most_frame};
 use dymosaw::desk::{Desk, LENGTH_SIZE, LINE_ROOM, MOST_FRAME, TABLE_ROOM};
 use std::io::{Read, Stdin, Stdout, Write};
 
-// Where the run stands after a frame, and whether it goes on.
-#[derive(Clone, Copy)]
-struct After {
-    desk: Desk,
-    goes_on: bool,
-}
-
 // Reads until the buffer is full, the input ends or a read fails, and returns how many bytes it put at the buffer's start.
 fn read_full(input: &mut Stdin, buffer: &mut [u8]) -> usize
     ensures { result ≤ length buffer.new }
@@ -40,30 +33,22 @@ fn read_frame(input: &mut Stdin, frame: &mut [u8]) -> usize
     got + read_full(input, &mut frame[LENGTH_SIZE..end])
 }
 
-// A frame, if one comes. The line is written at once, so that a pipe sees it before the next frame.
+// A frame, if one comes, and where the run stands after it, if it goes on. The line is written at once, so that a pipe sees it before the next frame.
 fn one_frame(
     input: &mut Stdin,
     output: &mut Stdout,
     table: &mut [u8; TABLE_ROOM],
     desk: Desk,
-) -> After {
+) -> Option<Desk> {
     let mut frame = [0u8; MOST_FRAME];
     let got = read_frame(input, &mut frame);
     if got == 0 {
-        return After {
-            desk,
-            goes_on: false,
-        };
+        return None;
     }
     let mut line = [0u8; LINE_ROOM];
     let step = dymosaw::desk::step(table, desk, &frame[..got], &mut line);
-    let length = step.line;
-    let is_written = output.write_all(&line[..length]).is_ok();
-    let next = step.desk;
-    After {
-        desk: next,
-        goes_on: is_written & step.goes_on,
-    }
+    output.write_all(&line[..step.line]).ok()?;
+    step.next
 }
 
 // A proved loop has to end, and nothing says that the input does: so it counts its frames up to a number that no run reaches.
@@ -73,10 +58,9 @@ fn main(rt: HostRuntime) {
     let mut table = dymosaw::desk::first_table();
     let mut desk = dymosaw::desk::first();
     for _ in 0..u64::MAX {
-        let after = one_frame(&mut input, &mut output, &mut table, desk);
-        if !after.goes_on {
+        let Some(next) = one_frame(&mut input, &mut output, &mut table, desk) else {
             return;
-        }
-        desk = after.desk;
+        };
+        desk = next;
     }
 }

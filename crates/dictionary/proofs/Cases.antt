@@ -5,8 +5,9 @@ use mathlib.Core.List.{List, [], ◌∷◌}
 use lib.Dec.{eqb}
 use Rattle.dictionary.specs.declared.Kind.{Kind}
 use Rattle.dictionary.specs.declared.Kind.TheVariants.{Four, Eight, Any, Group, Closed, Unknown}
-use Rattle.dictionary.specs.Kinds.{number_of, kind_numbered, size_right}
-use Rattle.dictionary.specs.Rows.{Row, row, rows, keys, kinds, key_of, keys_of, kinds_of, kind_beside, kind_in, kind_of}
+use Rattle.dictionary.specs.Kinds.{number_of, size_right}
+use Rattle.dictionary.specs.declared.Row.{Row}
+use Rattle.dictionary.specs.Rows.{row, rows, key_of, kind_with, kind_in, kind_of}
 
 -- a vendor, a code and the kind that a lookup answers
 lookups : List Row
@@ -33,7 +34,7 @@ lookups =
 
 answered : List Row → Bool
 answered [] = true
-answered (r ∷ rs) = eqb (number_of (kind_of r.vendor r.code)) (number_of r.kind) && answered rs
+answered (r ∷ rs) = eqb (number_of (kind_of r.key.vendor r.key.code)) (number_of r.kind) && answered rs
 
 -- a kind, and of an AVP of that kind: are 4, 8 or 5 bytes of data right
 record Meaning : Type 0 where
@@ -68,5 +69,5 @@ meant (m ∷ ms) =
     meant ms
 
 all_cases : (answered lookups && meant meanings) ≡ true
-unfolding answered lookups meant meanings alike kind_of kind_in kind_beside key_of keys kinds keys_of kinds_of rows kind_numbered
+unfolding answered lookups meant meanings alike kind_of kind_in kind_with key_of rows
 all_cases = refl

@@ -1,43 +1,31 @@
--- The keys ascend, by one computed test over all rows, and what a search by halves uses of it.
-use mathlib.Core.Path.{◌≡◌, refl, sym, ap, ◌∙◌, subst}
-use mathlib.Core.Bool.{Bool, true, false, ◌&&◌}
-use mathlib.Core.List.{List, [], ◌∷◌}
-use Prim.Native.Nat.{ℕ, zero, suc, ◌≤◌, ◌<◌}
+-- The static holds the specification's rows and their keys ascend, by computed tests over all rows, and what a search by halves uses of it.
+use Rattle.std.proofs.Common.{◌≡◌, refl, sym, ap, ap₂, ◌∙◌, ℕ, zero, suc, ◌≤◌, ◌<◌, Bool, true, ◌&&◌, List, [], ◌∷◌, length, get_or, Ok, Err, arith}
+use lib.Dec.{ltb}
+use borrow.Author.Tests.{eq-eqb, ne_eqb, ltb-true}
 use native.Mathlib.Nat.{not-suc-le-zero, le_of_suc-le-suc, lt_trans}
-use native.Mathlib.Omega.{arith}
-use lib.Dec.{ltb, eqb}
-use lib.ListN.{length, get_or}
-use borrow.Author.Tests.{eq-eqb, ne_eqb, ltb-true, ltb-false, eqb-true, eqb-false}
+use Rattle.std.specs.List.Sorted.{IsNonDecreasingBy, IsBinarySearchResult}
+use Rattle.std.specs.Ordering.{nat_cmp, ordering_index}
+use Rattle.std.proofs.lemmas.Bool.Decides.{nat_tests}
+use Rattle.std.proofs.lemmas.Cmp.{ranked}
 use Rattle.dictionary.specs.declared.Kind.TheVariants.{Unknown}
-use Rattle.dictionary.specs.Kinds.{kind_numbered}
-use Rattle.dictionary.specs.Rows.{rows, keys, kinds, key_of, keys_of, kinds_of, rising, kind_beside, kind_in, kind_of, Lent}
+use Rattle.dictionary.specs.declared.Row.{Row}
+use Rattle.dictionary.specs.declared.rows.TheConstants.{ROWS}
+use Rattle.dictionary.specs.Rows.{rows, keys, key_of, keys_of, rising, kind_with, kind_in, kind_of}
 
 -- the whole table
+
+pub rows_held : ROWS ≡ rows
+unfolding rows
+rows_held = refl
 
 pub keys-rise : rising 0 keys ≡ true
 unfolding rising keys rows keys_of key_of
 keys-rise = refl
 
-pub keys-even : length keys ≡ length kinds
-unfolding keys kinds rows keys_of kinds_of
-keys-even = refl
-
-pub lent : Lent keys kinds
-lent = record { rise = keys-rise; even = keys-even }
-
--- arrays that hold the rows are lent as such, and a lookup in them is one in the dictionary
-pub lent_rows : {ks ts : List ℕ} → ks ≡ keys → ts ≡ kinds → Lent ks ts
-lent_rows e f = record { rise = ap (rising 0) e ∙ keys-rise; even = ap length e ∙ keys-even ∙ ap length (sym f) }
-
-pub kind_of_rows : {ks ts : List ℕ} → ks ≡ keys → ts ≡ kinds → (vendor code : ℕ) → kind_in ks ts vendor code ≡ kind_of vendor code
-unfolding kind_of
-kind_of_rows e f vendor code = rw (e, f)
-
 -- rising lists
 
 both_true : (a b : Bool) → a && b ≡ true → (a ≡ true) × (b ≡ true)
-both_true true b e = (refl, e)
-both_true false b e = let z : ◌≡◌ {A = ℕ} 0 1 = cc in absurd (omega arith)
+both_true a b e = grind (arith, nat_tests)
 
 above : (b : ℕ) (xs : List ℕ) → rising b xs ≡ true → (j : ℕ) → j < length xs → b < get_or xs j 0
 unfolding rising
@@ -55,63 +43,70 @@ ascending b (x ∷ xs) e zero (suc j) h l = above x xs (both_true (ltb b x) (ris
 ascending b (x ∷ xs) e (suc i) (suc j) h l =
     ascending x xs (both_true (ltb b x) (rising x xs) e).1 i j (le_of_suc-le-suc h) (le_of_suc-le-suc l)
 
+-- one row a key
+pub key_once : (ks : List ℕ) → rising 0 ks ≡ true → (i j : ℕ) → i < length ks → j < length ks → get_or ks i 0 ≡ get_or ks j 0 → i ≡ j
+key_once ks r i j h g e = grind (arith, ascending 0 ks r i j, ascending 0 ks r j i)
+
+-- rows and their keys
+
+abbrev number : Row → ℕ
+number r = key_of r.key.vendor r.key.code
+
+pub length-keys : (rs : List Row) → length (keys_of rs) ≡ length rs
+unfolding keys_of
+length-keys [] = refl
+length-keys (r ∷ rs) = ap suc (length-keys rs)
+
+pub key_at : (rs : List Row) (i : ℕ) (d : Row) → i < length rs → get_or (keys_of rs) i 0 ≡ number (get_or rs i d)
+unfolding keys_of
+key_at [] i d h = absurd (not-suc-le-zero h)
+key_at (r ∷ rs) zero d h = refl
+key_at (r ∷ rs) (suc i) d h = key_at rs i d (le_of_suc-le-suc h)
+
 -- the row with a key, and none
 
-beside_at : (k b : ℕ) (ks ts : List ℕ) → rising b ks ≡ true → length ks ≡ length ts → (i : ℕ) → i < length ks → get_or ks i 0 ≡ k
-    → kind_beside k ks ts ≡ kind_numbered (get_or ts i 0)
-unfolding kind_beside rising
-beside_at k b [] ts r l i h e = absurd (not-suc-le-zero h)
-beside_at k b (x ∷ xs) [] r l i h e = absurd (omega arith)
-beside_at k b (x ∷ xs) (t ∷ ts) r l zero h e = rw (eq-eqb x k e)
-beside_at k b (x ∷ xs) (t ∷ ts) r l (suc i) h e =
-    let p = (both_true (ltb b x) (rising x xs) r).1 in
-    let a = above x xs p i (le_of_suc-le-suc h) in
-    rw (ne_eqb x k (λ z. omega arith)) (beside_at k x xs ts p (omega arith) i (le_of_suc-le-suc h) e)
+with_at : (k b : ℕ) (rs : List Row) → rising b (keys_of rs) ≡ true → (i : ℕ) (d : Row) → i < length rs → number (get_or rs i d) ≡ k
+    → kind_with k rs ≡ (get_or rs i d).kind
+unfolding kind_with keys_of rising
+with_at k b [] e i d h n = absurd (not-suc-le-zero h)
+with_at k b (r ∷ rs) e zero d h n = rw (eq-eqb (number r) k n) refl
+with_at k b (r ∷ rs) e (suc i) d h n =
+    let p = (both_true (ltb b (number r)) (rising (number r) (keys_of rs)) e).1 in
+    let l : i < length (keys_of rs) = omega (arith, length-keys rs) in
+    let a = above (number r) (keys_of rs) p i l in
+    rw (ne_eqb (number r) k (λ z. omega (arith, key_at rs i d))) (with_at k (number r) rs p i d (le_of_suc-le-suc h) n)
 
-beside_none : (k : ℕ) (ks ts : List ℕ) → ((j : ℕ) → j < length ks → get_or ks j 0 ≡ k → ⊥) → kind_beside k ks ts ≡ Unknown
-unfolding kind_beside
-beside_none k [] ts n = refl
-beside_none k (x ∷ xs) [] n = refl
-beside_none k (x ∷ xs) (t ∷ ts) n = rw (ne_eqb x k (n 0 (omega arith))) (beside_none k xs ts (λ j h. n (suc j) (omega arith)))
+with_none : (k : ℕ) (rs : List Row) → ((j : ℕ) (d : Row) → j < length rs → number (get_or rs j d) ≡ k → ⊥) → kind_with k rs ≡ Unknown
+unfolding kind_with
+with_none k [] n = refl
+with_none k (r ∷ rs) n = rw (ne_eqb (number r) k (n 0 r (omega arith))) (with_none k rs (λ j d h. n (suc j) d (omega arith)))
 
-pub kind_none : (ks ts : List ℕ) (vendor code : ℕ) → ((j : ℕ) → j < length ks → get_or ks j 0 ≡ key_of vendor code → ⊥) → kind_in ks ts vendor code ≡ Unknown
-unfolding kind_in
-kind_none ks ts vendor code n = beside_none (key_of vendor code) ks ts n
+-- what a search by halves answers among the rows
 
--- lent arrays: one row a key, and what each step of the search keeps
+module _ (rs : List Row) (held : rs ≡ rows) (vendor code k : ℕ) (key : k ≡ key_of vendor code) where
+  rise : rising 0 (keys_of rs) ≡ true
+  unfolding keys
+  rise = ap (λ l. rising 0 (keys_of l)) held ∙ keys-rise
 
-module _ (ks ts : List ℕ) (l : Lent ks ts) where
-  pub kind_at : (vendor code i : ℕ) → i < length ks → get_or ks i 0 ≡ key_of vendor code → kind_in ks ts vendor code ≡ kind_numbered (get_or ts i 0)
-  unfolding kind_in
-  kind_at vendor code i h e = beside_at (key_of vendor code) 0 ks ts l.rise l.even i h e
+  -- the comparisons with a key rise along the rows
+  comparisons_rise : IsNonDecreasingBy (λ r. ordering_index (nat_cmp (number r) k)) rs
+  comparisons_rise i j d le h =
+      let l = length-keys rs in
+      let a = ascending 0 (keys_of rs) rise i j in
+      let up : number (get_or rs i d) ≤ number (get_or rs j d) = grind (arith, a, key_at rs i d, key_at rs j d, λ (same : i ≡ j). ap (λ n. number (get_or rs n d)) same) in
+      grind (arith, nat_tests)
 
-  pub key_once : (i j : ℕ) → i < length ks → j < length ks → get_or ks i 0 ≡ get_or ks j 0 → i ≡ j
-  key_once i j h g e = go (ltb i j) refl (ltb j i) refl
+  pub kind_found : (i : ℕ) (d : Row) → i < length rs → IsBinarySearchResult (λ r. nat_cmp (number r) k) rs (Ok i) → (get_or rs i d).kind ≡ kind_of vendor code
+  unfolding kind_of kind_in
+  kind_found i d h at = sym (with_at k 0 rs rise i d h (ranked _ _ _ (sym (at d)))) ∙ ap₂ kind_with key held
+
+  pub kind_absent : (i : ℕ) → IsBinarySearchResult (λ r. nat_cmp (number r) k) rs (Err i) → Unknown ≡ kind_of vendor code
+  unfolding kind_of kind_in
+  kind_absent i parted = sym (with_none k rs none) ∙ ap₂ kind_with key held
     where
-      go : (c : Bool) → ltb i j ≡ c → (d : Bool) → ltb j i ≡ d → i ≡ j
-      go true p d q = let a = ascending 0 ks l.rise i j (ltb-true i j p) g in absurd (omega arith)
-      go false p true q = let a = ascending 0 ks l.rise j i (ltb-true j i q) h in absurd (omega arith)
-      go false p false q = let a = ltb-false i j p in let b = ltb-false j i q in omega arith
-
-  pub all_below : (k mid : ℕ) → mid < length ks → get_or ks mid 0 < k → (j : ℕ) → j ≤ mid → get_or ks j 0 < k
-  all_below k mid b h j p = go (eqb j mid) refl
-    where
-      go : (c : Bool) → eqb j mid ≡ c → get_or ks j 0 < k
-      go true q = subst (λ (i : ℕ). get_or ks i 0 < k) (sym (eqb-true j mid q)) h
-      go false q = let ne = eqb-false j mid q in lt_trans (ascending 0 ks l.rise j mid (omega arith) b) h
-
-  pub all_above : (k mid : ℕ) → k < get_or ks mid 0 → (j : ℕ) → mid ≤ j → j < length ks → k < get_or ks j 0
-  all_above k mid h j p b = go (eqb mid j) refl
-    where
-      go : (c : Bool) → eqb mid j ≡ c → k < get_or ks j 0
-      go true q = subst (λ (i : ℕ). k < get_or ks i 0) (eqb-true mid j q) h
-      go false q = let ne = eqb-false mid j q in lt_trans h (ascending 0 ks l.rise mid j (omega arith) b)
-
--- nothing is left between the keys below and the keys above
-pub kind_nowhere : (ks ts : List ℕ) (vendor code lo hi : ℕ) → hi ≤ lo → ((j : ℕ) → j < lo → get_or ks j 0 < key_of vendor code)
-    → ((j : ℕ) → hi ≤ j → j < length ks → key_of vendor code < get_or ks j 0) → kind_in ks ts vendor code ≡ Unknown
-kind_nowhere ks ts vendor code lo hi h below over = kind_none ks ts vendor code (λ j p e. go j p e (ltb j lo) refl)
-  where
-    go : (j : ℕ) → j < length ks → get_or ks j 0 ≡ key_of vendor code → (c : Bool) → ltb j lo ≡ c → ⊥
-    go j p e true t = let a = below j (ltb-true j lo t) in omega arith
-    go j p e false t = let g = ltb-false j lo t in let a = over j (omega arith) p in omega arith
+      none : (j : ℕ) (d : Row) → j < length rs → number (get_or rs j d) ≡ k → ⊥
+      none j d h e =
+          let p = parted comparisons_rise in
+          let below : j < i → number (get_or rs j d) < k = λ l. ranked _ _ _ (sym (p.0 j d (omega arith) l)) in
+          let over : i ≤ j → k < number (get_or rs j d) = λ l. ranked _ _ _ (sym (p.1 j d l h)) in
+          grind (arith, below, over)

@@ -1,17 +1,12 @@
 -- The frozen list of docs/DICTIONARY.md: every row of TS 29.272 clause 7.3.1 (its own and its reused AVPs) and of RFC 6733 section 4.5, and no other.
--- From it the two lists that a lookup is lent, and what a lookup in any two such lists answers.
-use Rattle.std.specs.Prelude.{◌≡◌, Bool, true, cond, ◌&&◌, List, [], ◌∷◌, ℕ, ◌+◌, ◌*◌, eqb, ltb, length}
+-- From it the keys in their order, and the kind of an AVP.
+use Rattle.std.specs.Prelude.{Bool, true, cond, ◌&&◌, List, [], ◌∷◌, ℕ, ◌+◌, ◌*◌, eqb, ltb}
 use Rattle.dictionary.specs.declared.Kind.{Kind}
 use Rattle.dictionary.specs.declared.Kind.TheVariants.{Four, Eight, Any, Group, Closed, Unknown}
-use Rattle.dictionary.specs.Kinds.{number_of, kind_numbered}
-
-pub record Row : Type 0 where
-  pub vendor : ℕ
-  pub code : ℕ
-  pub kind : Kind
+use Rattle.dictionary.specs.declared.Row.{Row}
 
 abbrev pub row : ℕ → ℕ → Kind → Row
-row v c k = record { vendor = v; code = c; kind = k }
+row v c k = record { key = record { vendor = v; code = c }; kind = k }
 
 -- "An AVP's key is (vendor, code)": one number, ordered by vendor and then by code
 unfoldable pub key_of : ℕ → ℕ → ℕ
@@ -19,31 +14,20 @@ key_of vendor code = vendor * 4294967296 + code
 
 unfoldable pub keys_of : List Row → List ℕ
 keys_of [] = []
-keys_of (r ∷ rs) = key_of r.vendor r.code ∷ keys_of rs
-
-unfoldable pub kinds_of : List Row → List ℕ
-kinds_of [] = []
-kinds_of (r ∷ rs) = number_of r.kind ∷ kinds_of rs
+keys_of (r ∷ rs) = key_of r.key.vendor r.key.code ∷ keys_of rs
 
 -- each number is above the one before it, the first above b
 unfoldable pub rising : ℕ → List ℕ → Bool
 rising b [] = true
 rising b (x ∷ xs) = ltb b x && rising x xs
 
--- the kind that stands beside this key, if there is one
-unfoldable pub kind_beside : ℕ → List ℕ → List ℕ → Kind
-kind_beside k [] ts = Unknown
-kind_beside k (x ∷ xs) [] = Unknown
-kind_beside k (x ∷ xs) (t ∷ ts) = cond (eqb x k) (kind_numbered t) (kind_beside k xs ts)
+-- the kind of the first row with this key, if there is one
+unfoldable pub kind_with : ℕ → List Row → Kind
+kind_with k [] = Unknown
+kind_with k (r ∷ rs) = cond (eqb (key_of r.key.vendor r.key.code) k) r.kind (kind_with k rs)
 
--- the kind of the row with this key, if there is one
-unfoldable pub kind_in : List ℕ → List ℕ → ℕ → ℕ → Kind
-kind_in ks ts vendor code = kind_beside (key_of vendor code) ks ts
-
--- what is proved of the arrays once and carried to each lookup: the keys ascend, and each has a kind beside it
-pub record Lent (ks ts : List ℕ) : Type 0 where
-  pub rise : rising 0 ks ≡ true
-  pub even : length ks ≡ length ts
+unfoldable pub kind_in : List Row → ℕ → ℕ → Kind
+kind_in rs vendor code = kind_with (key_of vendor code) rs
 
 -- vendor, code and kind of each AVP
 unfoldable pub rows : List Row
@@ -378,9 +362,6 @@ rows =
 unfoldable pub keys : List ℕ
 keys = keys_of rows
 
-unfoldable pub kinds : List ℕ
-kinds = kinds_of rows
-
 -- the kind of an AVP
 unfoldable pub kind_of : ℕ → ℕ → Kind
-kind_of vendor code = kind_in keys kinds vendor code
+kind_of vendor code = kind_in rows vendor code

@@ -1,17 +1,16 @@
 // The AVPs that the registry knows, and what their types mean to the reader (document 01, "The reader").
-// A lookup halves two lent arrays whose keys ascend; that they do is proved once over all rows and carried to each lookup as a `requires`.
+// A lookup halves the rows, whose keys ascend: that they do is proved once over all of them.
 #![tactic(auto)]
 
 ghost use Rattle.std.specs.Prelude.{◌≡◌, ◌<◌};
-ghost use Rattle.dictionary.specs.Kinds.{kind_numbered};
-ghost use Rattle.dictionary.specs.Rows.{keys, kinds, key_of, kind_in, Lent};
+ghost use Rattle.dictionary.specs.Rows.{key_of, kind_of};
 
-use rows::{KEYS, KINDS};
+use rows::ROWS;
 
 mod rows;
 
 // What an AVP's type asks of its data, and whether the reader goes inside.
-#[derive(Clone, Copy)]
+#[derive(Clone, Copy, Debug, PartialEq, Eq)]
 pub enum Kind {
     // 4 bytes: Unsigned32, Integer32, Enumerated, Time
     Four,
@@ -23,73 +22,40 @@ pub enum Kind {
     Group,
     // a group that is not entered: Failed-AVP, Proxy-Info
     Closed,
-    // no row has the key
+    // no row has the key; no `Option` around five kinds, since paper's `by_kind`, `blank`, `empty_of` and the promise `unknown_added` (docs/PROMISES.md) speak of six
     Unknown,
 }
 
-// Vendor and code as one number, so that one comparison orders keys.
-pub fn key_of(vendor: u32, code: u32) -> u64
-    ensures value { result ≡ key_of vendor code }
-    ensures code_bound { code < 4294967296 }
-{
-    (vendor as u64) * 4294967296 + (code as u64)
+// "An AVP's key is (vendor, code)"; vendor 0 where the AVP has none. The code comes first, so that a key's number is one load of memory.
+#[derive(Clone, Copy, Debug, PartialEq, Eq)]
+pub struct Key {
+    pub code: u32,
+    pub vendor: u32,
 }
 
-// The kind that a number of the second array stands for.
-fn kind_numbered(n: u8) -> Kind
-    ensures { result ≡ kind_numbered n }
-{
-    if n == 4 {
-        return Kind::Four;
+impl Key {
+    // Vendor and code as one number, so that one comparison orders keys.
+    pub fn number(self) -> u64
+        ensures value { result ≡ key_of self.vendor self.code }
+        ensures code_bound { self.code < 4294967296 }
+    {
+        (self.vendor as u64) * 4294967296 + (self.code as u64)
     }
-    if n == 0 {
-        return Kind::Any;
-    }
-    if n == 1 {
-        return Kind::Group;
-    }
-    if n == 8 {
-        return Kind::Eight;
-    }
-    if n == 2 {
-        return Kind::Closed;
-    }
-    Kind::Unknown
 }
 
-// The kind of the AVP with this vendor and code; Unknown where no row has its key.
-pub fn lookup(keys: &[u64], kinds: &[u8], vendor: u32, code: u32) -> Kind
-    requires { Lent keys.now kinds.now }
-    ensures { result ≡ kind_in keys.now kinds.now vendor code }
+// What the dictionary says of one AVP.
+#[derive(Clone, Copy, Debug, PartialEq, Eq)]
+pub struct Row {
+    pub key: Key,
+    pub kind: Kind,
+}
+
+// The kind of the AVP with this key; Unknown where no row has it.
+pub fn lookup(key: Key) -> Kind
+    ensures { result ≡ kind_of key.vendor key.code }
 {
-    let key = key_of(vendor, code);
-    let mut lo: usize = 0;
-    let mut hi: usize = keys.len();
-    while lo < hi {
-        let mid = lo + (hi - lo) / 2;
-        let k = keys[mid];
-        if k == key {
-            return kind_numbered(kinds[mid]);
-        }
-        if k < key {
-            lo = mid + 1;
-        } else {
-            hi = mid;
-        }
+    match ROWS.binary_search_by_key(&key.number(), |row| row.key.number()) {
+        Ok(at) => ROWS[at].kind,
+        Err(_) => Kind::Unknown,
     }
-    Kind::Unknown
-}
-
-// The keys of all rows, ascending.
-pub fn all_keys() -> [u64; 325]
-    ensures { result ≡ keys }
-{
-    KEYS
-}
-
-// The numbers of the kinds of all rows, in the order of the keys.
-pub fn all_kinds() -> [u8; 325]
-    ensures { result ≡ kinds }
-{
-    KINDS
 }

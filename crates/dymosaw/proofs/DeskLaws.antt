@@ -1,10 +1,11 @@
 -- The desk's turns: what each kind of frame leaves in the desk's buffer.
 -- Assumes nothing.
-use Rattle.std.proofs.Common.{◌≡◌, ℕ, ◌+◌, ◌-◌, ◌%◌, ◌^◌, ◌<◌, ◌≤◌, Bool, true, false, ◌&&◌, eqb, List, ◌++◌, length, get_or, take, drop, sym, refl, ap, ◌∙◌, subst, zero-add, arith, length-drop, length-take-le, take_all, le-ltb, lt-ltb, eq-eqb, ne_eqb}
+use Rattle.std.proofs.Common.{◌≡◌, ℕ, ◌+◌, ◌-◌, ◌%◌, ◌^◌, ◌<◌, ◌≤◌, Bool, true, false, List, ◌++◌, length, get_or, take, drop, sym, refl, ap, ◌∙◌, subst, zero-add, arith, length-drop, length-take-le, take_all, le-ltb, lt-ltb, ne_eqb}
+use Rattle.std.proofs.lemmas.Bool.{false≢true}
 use mathlib.Core.Option.{some}
 use Rattle.wire.specs.Number.{num_at}
 use Rattle.wire.specs.Put.{put, Wrote}
-use Rattle.wire.proofs.PutLaws.{put_same, length-put}
+use Rattle.wire.proofs.PutLaws.{put_same}
 use Rattle.paper.specs.declared.Line.{Line}
 use Rattle.paper.specs.declared.Verdict.{Verdict}
 use Rattle.paper.specs.Shown.{verdict_of}
@@ -16,13 +17,15 @@ use Rattle.paper.proofs.TableLaws.{valid_parts}
 use Rattle.paper.proofs.DeskLaws.{size-least, size-most, frame_parts}
 use Rattle.dymosaw.specs.declared.desk.Desk.{Desk}
 use Rattle.dymosaw.specs.declared.desk.Turned.{Turned}
-use Rattle.dymosaw.specs.declared.desk.Stepped.{Stepped}
-use Rattle.dymosaw.specs.declared.serve.Served.{Served}
-use Rattle.dymosaw.specs.declared.serve.Served.TheVariants.{Refused, Answered}
-use Rattle.dymosaw.specs.Serve.{number_of, size_of, said_by, listed_by}
+use Rattle.std.specs.Prelude.{Result, Ok, Err, Option, Some, None, option_map, cond, MatchOption, IsSomeAnd, ◌≢◌}
+use Rattle.dymosaw.specs.declared.serve.Answered.{Answered}
+use Rattle.dymosaw.specs.declared.serve.Silent.{Silent}
+use Rattle.dymosaw.specs.Serve.{number_of_silent, number_of, size_of, said_by, listed_by}
 use Rattle.dymosaw.specs.Serve as Serve
 use Rattle.dymosaw.specs.Entry as Entry
-use Rattle.dymosaw.specs.Desk.{table_room, turn_of, table_in, Made, Told}
+use Rattle.dymosaw.specs.declared.desk.Kind.{Kind}
+use Rattle.dymosaw.specs.declared.desk.Kind.TheVariants.{Table, Request, Correction}
+use Rattle.dymosaw.specs.Desk.{table_room, turn_of, turn_for, table_in, desk_at, Framed, Made, Told}
 
 -- ---- the buffer
 
@@ -38,33 +41,44 @@ front_stored b x n e = let z : n ≡ 0 + length x = omega arith in rw z
 
 -- ---- a turn that was made
 
-pub made : {u : Turn} (l : Line) (t : List ℕ) (g : Bool) → turn_of l t g ≡ u → (b b' : List ℕ) (n : ℕ) → n ≡ length t → b' ≡ put 0 t b
-    → Made u b b' (record { line = l; used = n; goes_on = g })
-made l t g e b b' n s p = subst (λ (v : Turn). Made v b b' (record { line = l; used = n; goes_on = g })) e (record { line = refl; used = s; buffer = p; goes_on = refl })
+made-at : {u : Turn} (l : Line) (t : List ℕ) → turn_of l t true ≡ u → (b b' : List ℕ) (n : ℕ) → n ≡ length t → b' ≡ put 0 t b
+    → Made u b b' (record { line = l; used = Some n })
+made-at l t e b b' n s p =
+    subst (λ (v : Turn). Made v b b' (record { line = l; used = Some n })) e
+    (record { line = refl; used = ap Some s; buffer = p; ended = λ q. absurd (false≢true (sym q)) })
+
+pub made : {u : Turn} {l : Line} {t : List ℕ} → turn_of l t true ≡ u → {b b' : List ℕ} {n : ℕ} → n ≡ length t → b' ≡ put 0 t b → Made u b b' (record { line = l; used = Some n })
+made {l = l} {t = t} e {b} {b'} {n} s p = made-at l t e b b' n s p
+
+-- the table stays
+pub made_kept : {u : Turn} {l : Line} {b : List ℕ} {n : ℕ} → n ≤ length b → turn_of l (take n b) true ≡ u → Made u b b (record { line = l; used = Some n })
+made_kept {l = l} {b = b} {n = n} h e = made-at l (take n b) e b b n (sym (length-take-le n b h)) (front_kept b n h)
+
+-- the table was written where it stands
+pub made-there : {u : Turn} {l : Line} {x b : List ℕ} {n : ℕ} → length x ≡ n → turn_of l x true ≡ u → Made u b (x ++ drop n b) (record { line = l; used = Some n })
+made-there {l = l} {x = x} {b = b} {n = n} s e = made-at l x e b (x ++ drop n b) n (sym s) (front_stored b x n s)
+
+-- the run ends
+pub made-ended : {u : Turn} {l : Line} {b : List ℕ} {n : ℕ} → n ≤ length b → turn_of l (take n b) false ≡ u → Made u b b (record { line = l; used = None })
+made-ended {l = l} {b = b} {n = n} h e =
+    subst (λ (v : Turn). Made v b b (record { line = l; used = None })) e (record { line = refl; used = refl; buffer = front_kept b n h; ended = λ q. refl })
 
 pub made_as : {u v : Turn} {b b' : List ℕ} {r : Turned} → u ≡ v → Made u b b' r → Made v b b' r
 made_as {b = b} {b' = b'} {r = r} e m = subst (λ (w : Turn). Made w b b' r) e m
 
--- the table stays
-pub made_kept : {u : Turn} (l : Line) (g : Bool) (b : List ℕ) (n : ℕ) → n ≤ length b → turn_of l (take n b) g ≡ u → Made u b b (record { line = l; used = n; goes_on = g })
-made_kept l g b n h e = made l (take n b) g e b b n (sym (length-take-le n b h)) (front_kept b n h)
-
--- the table was written where it stands
-pub made-there : {u : Turn} (l : Line) (x : List ℕ) (g : Bool) (b : List ℕ) (n : ℕ) → length x ≡ n → turn_of l x g ≡ u → Made u b (x ++ drop n b) (record { line = l; used = n; goes_on = g })
-made-there l x g b n s e = made l x g e b (x ++ drop n b) n (sym s) (front_stored b x n s)
-
 -- ---- a request's line
 
-abbrev line_for : Served → Line
+abbrev line_for : Result Answered Silent → Line
 line_for r = answer_line (number_of r) (said_by r) (size_of r) (listed_by r)
 
-pub refused-line : {r : Served} (n : ℕ) → r ≡ Refused n → {l : Line} → l ≡ plain letter_r n → l ≡ answer_line (number_of r) (said_by r) (size_of r) (listed_by r)
+pub refused-line : {r : Result Answered Silent} (refusal : Silent) → r ≡ Err refusal → {n : ℕ} → n ≡ number_of_silent refusal → {l : Line} → l ≡ plain letter_r n
+    → l ≡ answer_line (number_of r) (said_by r) (size_of r) (listed_by r)
 unfolding answer_line
-refused-line n e p = p ∙ ap line_for (sym e)
+refused-line refusal e k p = p ∙ ap (plain letter_r) k ∙ ap line_for (sym e)
 
-pub answered-line : {r : Served} {v : Verdict} (w : Verdict) (n k : ℕ) → r ≡ Answered v n k → v ≡ w
-    → answer_line 0 (some (verdict_of w)) n k ≡ answer_line (number_of r) (said_by r) (size_of r) (listed_by r)
-answered-line w n k e q = ap line_for (sym (e ∙ ap (λ (v : Verdict). Answered v n k) q))
+pub answered-line : {r : Result Answered Silent} (x : Answered) (w : Verdict) → r ≡ Ok x → x.verdict ≡ w
+    → answer_line 0 (some (verdict_of w)) x.length x.listed ≡ answer_line (number_of r) (said_by r) (size_of r) (listed_by r)
+answered-line x w e q = ap (λ (v : Verdict). answer_line 0 (some (verdict_of v)) x.length x.listed) (sym q) ∙ ap line_for (sym e)
 
 -- ---- the kinds
 
@@ -77,7 +91,7 @@ module _ (t d : List ℕ) where
   unfolding table_turn
   table-refused e p = rw (e, p)
 
-  pub answered-turn : (r : Served) {x a c : List ℕ} → Serve.came_to r x a c ≡ outcome (desk_lent t d) → {l : Line} → l ≡ answer_line (number_of r) (said_by r) (size_of r) (listed_by r)
+  pub answered-turn : (r : Result Answered Silent) {x a c : List ℕ} → Serve.came_to r x a c ≡ outcome (desk_lent t d) → {l : Line} → l ≡ answer_line (number_of r) (said_by r) (size_of r) (listed_by r)
       → turn_of l x true ≡ request_turn t d
   unfolding request_turn answer_turn
   answered-turn r {x} e p = ap (λ (k : Line). turn_of k x true) p ∙ ap answer_turn e
@@ -86,32 +100,11 @@ module _ (t d : List ℕ) where
   unfolding correction_turn
   corrected-turn {n} {x} e p = ap (λ (k : Line). turn_of k x true) p ∙ ap (λ (c : Corrected). turn_of (plain letter_c c.number) c.table true) e
 
-  module _ (kind : ℕ) where
-    pub kind-table : kind ≡ 1 → table_turn t d ≡ by_frame_kind kind t d
-    unfolding by_frame_kind
-    kind-table e = rw (eq-eqb kind 1 e)
-
-    pub kind-request : kind ≡ 2 → request_turn t d ≡ by_frame_kind kind t d
-    unfolding by_frame_kind
-    kind-request e = rw e
-
-    pub kind-correction : kind ≡ 3 → correction_turn t d ≡ by_frame_kind kind t d
-    unfolding by_frame_kind
-    kind-correction e = rw e
-
-    pub kind-other : (kind ≡ 1 → ⊥) → (kind ≡ 2 → ⊥) → (kind ≡ 3 → ⊥) → last_turn t ≡ by_frame_kind kind t d
-    unfolding by_frame_kind
-    kind-other a b c = rw (ne_eqb kind 1 a, ne_eqb kind 2 b, ne_eqb kind 3 c)
-
 pub last_plain : (t : List ℕ) {l : Line} → l ≡ plain letter_x 0 → turn_of l t false ≡ last_turn t
 unfolding last_turn
 last_plain t p = rw p
 
 -- ---- any frame
-
-pub frame_tested : (f : List ℕ) {n : ℕ} {s : Bool} → n ≡ num_at 4 f 0 → s ≡ size_right n → s && (eqb (length f) n && eqb (get_or f 4 0) 1) ≡ frame_right f
-unfolding frame_right
-frame_tested f e p = rw (p, e)
 
 pub frame-short : (f : List ℕ) → length f < desk_head → false ≡ frame_right f
 frame-short f h = go (frame_right f) refl
@@ -120,16 +113,32 @@ frame-short f h = go (frame_right f) refl
     go false e = refl
     go true e = let long = (frame_parts f e).long in absurd (omega arith)
 
--- the part of a frame behind its head, as code lends it
-pub turn-right : (t f : List ℕ) → frame_right f ≡ true → by_frame_kind (get_or f 5 0) t (take (length f - desk_head) (drop desk_head f)) ≡ turn t f
-unfolding turn
-turn-right t f e =
-    let l = length-drop desk_head f in
-    ap (by_frame_kind (get_or f 5 0) t) (take_all (length f - desk_head) (drop desk_head f) (omega arith)) ∙ rw e
+-- ---- the kind of a frame
 
-pub turn-wrong : (t f : List ℕ) → frame_right f ≡ false → last_turn t ≡ turn t f
+abbrev pub code_of : Kind → ℕ
+code_of Table = 1
+code_of Request = 2
+code_of Correction = 3
+
+pub of_kind : (f : List ℕ) → frame_right f ≡ true → (k : Kind) → get_or f 5 0 ≡ code_of k → Framed f (Some k)
+unfolding turn by_frame_kind
+of_kind f e Table p = ((frame_parts f e).long, λ t. rw (e, p))
+of_kind f e Request p = ((frame_parts f e).long, λ t. rw (e, p))
+of_kind f e Correction p = ((frame_parts f e).long, λ t. rw (e, p))
+
+pub no_kind : (f : List ℕ) → frame_right f ≡ true → get_or f 5 0 ≢ 1 → get_or f 5 0 ≢ 2 → get_or f 5 0 ≢ 3 → (t : List ℕ) → last_turn t ≡ turn t f
+unfolding turn by_frame_kind
+no_kind f e a b c t = rw (e, ne_eqb (get_or f 5 0) 1 a, ne_eqb (get_or f 5 0) 2 b, ne_eqb (get_or f 5 0) 3 c)
+
+pub not_right : (f : List ℕ) → frame_right f ≡ false → (t : List ℕ) → last_turn t ≡ turn t f
 unfolding turn
-turn-wrong t f e = rw e
+not_right f e t = rw e
+
+-- the part of a frame behind its head, as code lends it
+pub kind_taken : (f t : List ℕ) (j : Kind) {k : Kind} → k ≡ j → Framed f (Some k) → turn_for j t (take (length f - desk_head) (drop desk_head f)) ≡ turn t f
+kind_taken f t j e h =
+    let l = length-drop desk_head f in
+    ap (turn_for j t) (take_all (length f - desk_head) (drop desk_head f) (omega arith)) ∙ ap (λ (i : Kind). turn_for i t (drop desk_head f)) (sym e) ∙ h.1 t
 
 -- ---- the bytes behind a length field
 
@@ -151,23 +160,27 @@ size-within n e = let a = size-least n e in let b = size-most n e in (omega arit
 
 -- ---- the step
 
--- a turn that was made, on the table by another name for its size, and its line
-pub told : (f : List ℕ) {b b' l l' t : List ℕ} {d : Desk} {r : Turned} {size next : ℕ} → t ≡ table_in d b → Made (turn t f) b b' r → Wrote l 0 (line_bytes d.number r.line) l' size
-    → next ≡ (d.number + 1) % 2 ^ 64
-    → Told (turn (table_in d b) f) d b l b' l' (record { desk = record { used = r.used; number = next }; line = size; goes_on = r.goes_on })
+-- the table of a turn that goes on, with the next number
+mapped : (goes_on : Bool) (n k : ℕ) → option_map (λ (m : ℕ). desk_at m k) (cond goes_on (Some n) None) ≡ cond goes_on (Some (desk_at n k)) None
+mapped true n k = refl
+mapped false n k = refl
+
+pub by_map : (o : Option ℕ) (r : Option Desk) (k : ℕ) (P : ℕ → Desk → Type 0) → ((n : ℕ) (d : Desk) → P n d → d ≡ desk_at n k)
+    → MatchOption o (r ≡ None) (λ n. IsSomeAnd r (P n)) → r ≡ option_map (λ (n : ℕ). desk_at n k) o
+by_map None r k P h m = m
+by_map (Some n) None k P h m = absurd m
+by_map (Some n) (Some d) k P h m = ap Some (h n d m)
+
+-- a turn that was made, and its line
+pub told : (f : List ℕ) {b b' l l' t : List ℕ} {d : Desk} {r : Turned} {size : ℕ} {next : Option Desk} → t ≡ table_in d b → Made (turn t f) b b' r → Wrote l 0 (line_bytes d.number r.line) l' size
+    → next ≡ option_map (λ (n : ℕ). desk_at n ((d.number + 1) % 2 ^ 64)) r.used
+    → Told (turn (table_in d b) f) d b l b' l' (record { line = size; next = next })
 told f {b = b} {l = l} {d = d} e m w n =
     let u = made_as (ap (λ (x : List ℕ). turn x f) e) m in
     record {
-      used = u.used;
-      number = n;
+      next = n ∙ ap (option_map (λ (n : ℕ). desk_at n ((d.number + 1) % 2 ^ 64))) u.used ∙ mapped _ _ _;
       buffer = u.buffer;
+      ended = u.ended;
       size = w.next ∙ zero-add (length (line_bytes d.number _)) ∙ ap (λ (x : Line). length (line_bytes d.number x)) u.line;
       line = w.made ∙ ap (λ (x : Line). put 0 (line_bytes d.number x) l) u.line;
-      goes_on = u.goes_on;
     }
-
--- a line that fits leaves the length of its buffer
-pub told-length : {u : Turn} {d : Desk} {b l b' l' : List ℕ} {r : Stepped} → Told u d b l b' l' r → r.line ≤ length l → length l' ≡ length l
-told-length {u} {d} {l = l} t h =
-    let size = t.size in
-    ap length t.line ∙ length-put 0 (line_bytes d.number u.line) l (omega arith)

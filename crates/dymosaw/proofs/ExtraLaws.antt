@@ -4,7 +4,8 @@ use Rattle.std.proofs.Common.{◌≡◌, ℕ, ◌+◌, ◌<◌, Bool, true, fals
 use mathlib.Core.Option.{Option, none, some}
 use Rattle.wire.specs.Number.{num_at}
 use Rattle.paper.specs.declared.Asked.{Asked}
-use Rattle.paper.specs.declared.Extra.TheVariants as Extra
+use Rattle.std.specs.Prelude.{Some, None, unwrap_or}
+use Rattle.paper.specs.declared.Extra.TheVariants.{Ula, Pua}
 use Rattle.paper.specs.Avp.{bit}
 use Rattle.paper.specs.Layout.{ambr_at}
 use Rattle.paper.specs.Profile.{Command, commands, command_in, command_of, ulr, pur, nor}
@@ -13,6 +14,7 @@ use Rattle.paper.specs.Asked.{flags_key, asked_of}
 use Rattle.paper.specs.Procedures.{Done, skip_subscriber_data, restriction_of}
 use Rattle.paper.specs.Outcome.{success_items}
 use Rattle.paper.specs.Shown.{extra_of}
+use Rattle.paper.proofs.GivenLaws.{flags-given}
 use Rattle.paper.proofs.ReplyShown.{ula_shown, pua_shown, noa_shown}
 
 -- the code of a command that was found, 0 where none was
@@ -58,25 +60,25 @@ module _ (asked : Asked) (m r : List ℕ) (d : Done) (told : asked ≡ asked_of 
   own_code = ap (λ (x : Asked). x.command) told
 
   -- the flag word of a ULR is ULR-Flags
-  skips : command_code m ≡ ulr → bit 2 asked.flags ≡ skip_subscriber_data m
+  skips : command_code m ≡ ulr → bit 2 (unwrap_or asked.flags 0) ≡ skip_subscriber_data m
   unfolding asked_of flags_key
-  skips u = ap (λ (x : Asked). bit 2 x.flags) told ∙ rw u
+  skips u = ap (λ (x : Asked). bit 2 (unwrap_or x.flags 0)) told ∙ ap (bit 2) (flags-given m) ∙ rw u
 
-  pub ula_extra : command_of ulr ≡ command_of asked.command → {restriction uplink downlink : ℕ} → restriction ≡ restriction_of r → uplink ≡ num_at 4 r ambr_at → downlink ≡ num_at 4 r (ambr_at + 4)
-      → extra_of (Extra.Ula (bit 2 asked.flags) restriction uplink downlink) ≡ success_items m r d
-  ula_extra e a b c =
+  pub ula_extra : command_of ulr ≡ command_of asked.command → {skip : Bool} → skip ≡ bit 2 (unwrap_or asked.flags 0) → {restriction uplink downlink : ℕ} → restriction ≡ restriction_of r → uplink ≡ num_at 4 r ambr_at → downlink ≡ num_at 4 r (ambr_at + 4)
+      → extra_of (Some (Ula (cond skip None (Some (record { restriction = restriction; uplink = uplink; downlink = downlink }))))) ≡ success_items m r d
+  ula_extra e q a b c =
       let u = sym own_code ∙ ulr-code asked.command e in
-      ula_shown m r d (eq-eqb (command_code m) ulr u) (skips u) a b c
+      ula_shown m r d (eq-eqb (command_code m) ulr u) (q ∙ skips u) a b c
 
-  pub pua_extra : command_of pur ≡ command_of asked.command → {purges : ℕ} → purges ≡ d.purges → extra_of (Extra.Pua purges) ≡ success_items m r d
+  pub pua_extra : command_of pur ≡ command_of asked.command → {purges : ℕ} → purges ≡ d.purges → extra_of (Some (Pua purges)) ≡ success_items m r d
   pua_extra e f =
       let u = sym own_code ∙ pur-code asked.command e in
       pua_shown m r d (rw u) (rw u) f
 
-  pub noa_extra : command_of nor ≡ command_of asked.command → extra_of Extra.Nothing ≡ success_items m r d
+  pub noa_extra : command_of nor ≡ command_of asked.command → extra_of None ≡ success_items m r d
   noa_extra e = let u = sym own_code ∙ nor-code asked.command e in noa_shown m r d (rw u) (rw u)
 
-  pub no_extra : none ≡ command_of asked.command → extra_of Extra.Nothing ≡ success_items m r d
+  pub no_extra : none ≡ command_of asked.command → extra_of None ≡ success_items m r d
   unfolding command_of command_in commands
   no_extra e =
       let o : none ≡ command_of (command_code m) = e ∙ ap command_of own_code in

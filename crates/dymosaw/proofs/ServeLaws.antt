@@ -8,10 +8,11 @@ use Rattle.paper.specs.Outcome.{Lent, Outcome, silent, by_refusal, outcome}
 use Rattle.paper.specs.Passed.{Passed}
 use Rattle.paper.proofs.TestLaws.{or-false-left}
 use Rattle.paper.proofs.OutcomeLaws.{passed}
-use Rattle.paper.specs.declared.Verdict.{Verdict}
-use Rattle.dymosaw.specs.declared.serve.Served.{Served}
-use Rattle.dymosaw.specs.declared.serve.Served.TheVariants.{Refused, Answered}
-use Rattle.dymosaw.specs.Serve.{came_to, Is, silent_number}
+use Rattle.std.specs.Prelude.{Result, Ok, Err}
+use Rattle.dymosaw.specs.declared.serve.Answered.{Answered}
+use Rattle.dymosaw.specs.declared.serve.Silent.{Silent}
+use Rattle.dymosaw.specs.declared.serve.Silent.TheVariants.{RequestSize, NotRequest, ShortBuffer, TableNotValid, OwnNameNotValid}
+use Rattle.dymosaw.specs.Serve.{came_to, Is, number_of_silent, number_refused, silent_number}
 
 -- ---- the refusals without an answer
 
@@ -95,31 +96,45 @@ went_on_outcome : (l : Lent) (n : ℕ) (o : Outcome) → Tested l n o → n ≡ 
 went_on_outcome l n o (stopped k h) e = absurd (omega arith)
 went_on_outcome l n o (went_on p) e = (p, refl)
 
--- a refusal without an answer
-pub silent-outcome : (l : Lent) {n : ℕ} → n ≡ silent_number l → (n ≡ 0 → ⊥) → came_to (Refused n) l.table l.answer l.cancel ≡ outcome l
-unfolding silent
-silent-outcome l {n} e ne = ap (λ (k : ℕ). silent k l) e ∙ stopped_outcome l (silent_number l) (outcome l) (tested l) (λ z. ne (e ∙ z))
+numbered : (refusal : Silent) → 0 < number_of_silent refusal
+numbered RequestSize = omega arith
+numbered NotRequest = omega arith
+numbered ShortBuffer = omega arith
+numbered TableNotValid = omega arith
+numbered OwnNameNotValid = omega arith
 
--- no such refusal
-pub call_passed : (l : Lent) {n : ℕ} → n ≡ silent_number l → n ≡ 0 → Passed l
-call_passed l e z = (went_on_outcome l (silent_number l) (outcome l) (tested l) (sym e ∙ z)).0
+module _ (l : Lent) {A : Type 0} {r : Result A Silent} (e : number_refused r ≡ silent_number l) where
+  -- a refusal without an answer
+  pub silent-outcome : (refusal : Silent) → r ≡ Err refusal → {s : Result Answered Silent} → s ≡ Err refusal → came_to s l.table l.answer l.cancel ≡ outcome l
+  unfolding silent
+  silent-outcome refusal q p =
+      let n : number_of_silent refusal ≡ silent_number l = ap number_refused (sym q) ∙ e in
+      ap (λ (s : Result Answered Silent). came_to s l.table l.answer l.cancel) p ∙ ap (λ (k : ℕ). silent k l) n
+      ∙ stopped_outcome l (silent_number l) (outcome l) (tested l) (λ z. omega (arith, numbered refusal, n))
 
-pub judged-outcome : (l : Lent) {n : ℕ} → n ≡ silent_number l → n ≡ 0 → {o : Outcome} → o ≡ by_refusal l (refusal l.request) → o ≡ outcome l
-judged-outcome l e z q = q ∙ (went_on_outcome l (silent_number l) (outcome l) (tested l) (sym e ∙ z)).1
+  -- no such refusal
+  went_on_told : (x : A) → r ≡ Ok x → Passed l × (by_refusal l (refusal l.request) ≡ outcome l)
+  went_on_told x q = went_on_outcome l (silent_number l) (outcome l) (tested l) (sym e ∙ ap number_refused q)
+
+  pub call_passed : (x : A) → r ≡ Ok x → Passed l
+  call_passed x q = (went_on_told x q).0
+
+  pub judged-outcome : (x : A) → r ≡ Ok x → {o : Outcome} → o ≡ by_refusal l (refusal l.request) → o ≡ outcome l
+  judged-outcome x q p = p ∙ (went_on_told x q).1
 
 -- ---- the C entry
 
-module _ (l : Lent) {r : Served} {t a c : List ℕ} (e : came_to r t a c ≡ outcome l) where
-  pub refused-is : (n : ℕ) → r ≡ Refused n → Is (outcome l) (n * 4294967296) t a c
-  refused-is n q =
-      let o : came_to (Refused n) t a c ≡ outcome l = ap (λ (x : Served). came_to x t a c) (sym q) ∙ e in
+module _ (l : Lent) {r : Result Answered Silent} {t a c : List ℕ} (e : came_to r t a c ≡ outcome l) where
+  pub refused-is : (refusal : Silent) → r ≡ Err refusal → {n : ℕ} → n ≡ number_of_silent refusal → Is (outcome l) (n * 4294967296) t a c
+  refused-is refusal q k =
+      let o : came_to (Err refusal) t a c ≡ outcome l = ap (λ (x : Result Answered Silent). came_to x t a c) (sym q) ∙ e in
       let number = ap (λ (x : Outcome). x.number) o in
       let size = ap (λ (x : Outcome). x.size) o in
       record { result = omega arith; table = ap (λ (x : Outcome). x.table) o; answer = ap (λ (x : Outcome). x.answer) o; cancel = ap (λ (x : Outcome). x.cancel) o }
 
-  pub answered-is : (v : Verdict) (n k : ℕ) → r ≡ Answered v n k → Is (outcome l) n t a c
-  answered-is v n k q =
-      let o : came_to (Answered v n k) t a c ≡ outcome l = ap (λ (x : Served). came_to x t a c) (sym q) ∙ e in
-      let number = ap (λ (x : Outcome). x.number) o in
-      let size = ap (λ (x : Outcome). x.size) o in
-      record { result = omega arith; table = ap (λ (x : Outcome). x.table) o; answer = ap (λ (x : Outcome). x.answer) o; cancel = ap (λ (x : Outcome). x.cancel) o }
+  pub answered-is : (x : Answered) → r ≡ Ok x → Is (outcome l) x.length t a c
+  answered-is x q =
+      let o : came_to (Ok x) t a c ≡ outcome l = ap (λ (y : Result Answered Silent). came_to y t a c) (sym q) ∙ e in
+      let number = ap (λ (y : Outcome). y.number) o in
+      let size = ap (λ (y : Outcome). y.size) o in
+      record { result = omega arith; table = ap (λ (y : Outcome). y.table) o; answer = ap (λ (y : Outcome). y.answer) o; cancel = ap (λ (y : Outcome). y.cancel) o }

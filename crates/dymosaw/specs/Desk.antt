@@ -1,12 +1,14 @@
 -- What the desk's functions are given and leave: a turn made in the desk's buffer, and a step with its line.
 -- Assumes nothing.
-use Rattle.std.specs.Prelude.{◌≡◌, ℕ, ◌+◌, ◌%◌, ◌^◌, ◌≤◌, Bool, List, length, take}
+use Rattle.std.specs.Prelude.{◌≡◌, ℕ, ◌+◌, ◌%◌, ◌^◌, ◌≤◌, Bool, false, cond, List, length, take, drop, Option, Some, None, MatchOption}
 use Rattle.wire.specs.Put.{put}
 use Rattle.paper.specs.declared.Line.{Line}
 use Rattle.paper.specs.Layout.{most_records}
 use Rattle.paper.specs.Table.{record_at}
-use Rattle.paper.specs.Desk.{Turn, line_bytes}
+use Rattle.paper.specs.Desk.{Turn, desk_head, line_bytes, table_turn, request_turn, correction_turn, last_turn, turn}
 use Rattle.dymosaw.specs.declared.desk.Desk.{Desk}
+use Rattle.dymosaw.specs.declared.desk.Kind.{Kind}
+use Rattle.dymosaw.specs.declared.desk.Kind.TheVariants.{Table, Request, Correction}
 use Rattle.dymosaw.specs.declared.desk.Turned.{Turned}
 use Rattle.dymosaw.specs.declared.desk.Stepped.{Stepped}
 
@@ -18,33 +20,39 @@ table_room = record_at most_records
 abbrev pub line_room : ℕ
 line_room = 77
 
--- a line and a turn by their parts
-abbrev pub line_of : ℕ → Bool → ℕ → ℕ → ℕ → Line
-line_of letter experimental code size listed = record { letter = letter; experimental = experimental; code = code; size = size; listed = listed }
-
+-- a turn by its parts
 abbrev pub turn_of : Line → List ℕ → Bool → Turn
 turn_of line table goes_on = record { line = line; table = table; goes_on = goes_on }
 
--- the first `used` bytes of the desk's buffer are its table
-pub record Holds (b : List ℕ) (used : ℕ) : Type 0 where
-  pub room : length b ≡ table_room
-  pub inside : used ≤ length b
+-- what each kind of frame comes to
+abbrev pub turn_for : Kind → List ℕ → List ℕ → Turn
+turn_for Table t d = table_turn t d
+turn_for Request t d = request_turn t d
+turn_for Correction t d = correction_turn t d
 
--- the turn `u` was made in the buffer `b`, which it left as `b'`: its table stands at the start, later bytes stay
+-- the frame has this kind, or none and ends the run
+abbrev pub Framed : List ℕ → Option Kind → Type 0
+Framed f r =
+    MatchOption r ((t : List ℕ) → last_turn t ≡ turn t f)
+    (λ kind. (desk_head ≤ length f) × ((t : List ℕ) → turn_for kind t (drop desk_head f) ≡ turn t f))
+
+-- the turn `u` was made in the buffer `b`, which it left as `b'`: its table stands at the start, later bytes stay; all stays where the run ends
 pub record Made (u : Turn) (b b' : List ℕ) (r : Turned) : Type 0 where
   pub line : r.line ≡ u.line
-  pub used : r.used ≡ length u.table
+  pub used : r.used ≡ cond u.goes_on (Some (length u.table)) None
   pub buffer : b' ≡ put 0 u.table b
-  pub goes_on : r.goes_on ≡ u.goes_on
+  pub ended : u.goes_on ≡ false → b' ≡ b
+
+abbrev pub desk_at : ℕ → ℕ → Desk
+desk_at used number = record { used = used; number = number }
 
 -- the turn `u` was made, and its line stands at the start of the line's buffer `l`, which was left as `l'`
 pub record Told (u : Turn) (d : Desk) (b l b' l' : List ℕ) (r : Stepped) : Type 0 where
-  pub used : r.desk.used ≡ length u.table
-  pub number : r.desk.number ≡ (d.number + 1) % 2 ^ 64
+  pub next : r.next ≡ cond u.goes_on (Some (desk_at (length u.table) ((d.number + 1) % 2 ^ 64))) None
   pub buffer : b' ≡ put 0 u.table b
+  pub ended : u.goes_on ≡ false → b' ≡ b
   pub size : r.line ≡ length (line_bytes d.number u.line)
   pub line : l' ≡ put 0 (line_bytes d.number u.line) l
-  pub goes_on : r.goes_on ≡ u.goes_on
 
 -- the bytes of the buffer that are the table, all of them where the desk says more
 abbrev pub table_in : Desk → List ℕ → List ℕ

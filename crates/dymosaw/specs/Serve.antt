@@ -1,6 +1,6 @@
 -- What the answer of a request's call stands for: 01's number, the answer's length, and what the answer says, for each case; and what the inner functions ask.
 -- Assumes nothing.
-use Rattle.std.specs.Prelude.{◌≡◌, ℕ, ◌+◌, ◌*◌, ◌^◌, cond, not, ◌&&◌, ◌||◌, List, length, nat_lt, slice_index}
+use Rattle.std.specs.Prelude.{◌≡◌, ℕ, ◌+◌, ◌*◌, ◌^◌, cond, not, ◌&&◌, ◌||◌, List, length, nat_lt, slice_index, Result, Ok, Err}
 use Rattle.std.proofs.Math.Option.{Option, none, some}
 use Rattle.paper.specs.Layout.{least_answer, cancel_size, least_request, most_request, entry_size}
 use Rattle.paper.specs.Table.{valid}
@@ -9,8 +9,9 @@ use Rattle.paper.specs.Answer as Answer
 use Rattle.paper.specs.Shown.{verdict_of}
 use Rattle.paper.specs.Outcome.{Lent, Outcome}
 use Rattle.paper.specs.Passed.{Passed}
-use Rattle.dymosaw.specs.declared.serve.Served.{Served}
-use Rattle.dymosaw.specs.declared.serve.Served.TheVariants.{Refused, Answered}
+use Rattle.dymosaw.specs.declared.serve.Answered.{Answered}
+use Rattle.dymosaw.specs.declared.serve.Silent.{Silent}
+use Rattle.dymosaw.specs.declared.serve.Silent.TheVariants.{RequestSize, NotRequest, ShortBuffer, TableNotValid, OwnNameNotValid}
 
 -- the buffers and names of a call
 abbrev pub lent : (table request host realm answer cancel : List ℕ) → Lent
@@ -19,28 +20,39 @@ lent table request host realm answer cancel =
 
 -- ---- each case of the answer
 
--- the refusal's number, 0 where there is an answer
-abbrev pub number_of : Served → ℕ
-number_of (Refused number) = number
-number_of (Answered verdict length listed) = 0
+-- the number of a refusal without an answer
+abbrev pub number_of_silent : Silent → ℕ
+number_of_silent RequestSize = 1
+number_of_silent NotRequest = 2
+number_of_silent ShortBuffer = 3
+number_of_silent TableNotValid = 4
+number_of_silent OwnNameNotValid = 5
+
+-- the refusal's number, 0 where there is none
+abbrev pub number_refused : {A : Type 0} → Result A Silent → ℕ
+number_refused (Ok answered) = 0
+number_refused (Err refusal) = number_of_silent refusal
+
+abbrev pub number_of : Result Answered Silent → ℕ
+number_of r = number_refused r
 
 -- the answer's length, 0 where there is none
-abbrev pub size_of : Served → ℕ
-size_of (Refused number) = 0
-size_of (Answered verdict length listed) = length
+abbrev pub size_of : Result Answered Silent → ℕ
+size_of (Ok answered) = answered.length
+size_of (Err refusal) = 0
 
 -- what the answer says
-abbrev pub said_by : Served → Option Answer.Verdict
-said_by (Refused number) = none
-said_by (Answered verdict length listed) = some (verdict_of verdict)
+abbrev pub said_by : Result Answered Silent → Option Answer.Verdict
+said_by (Ok answered) = some (verdict_of answered.verdict)
+said_by (Err refusal) = none
 
 -- how many nodes are listed
-abbrev pub listed_by : Served → ℕ
-listed_by (Refused number) = 0
-listed_by (Answered verdict length listed) = listed
+abbrev pub listed_by : Result Answered Silent → ℕ
+listed_by (Ok answered) = answered.listed
+listed_by (Err refusal) = 0
 
 -- the answer of a call with the buffers that it leaves
-abbrev pub came_to : Served → (table answer cancel : List ℕ) → Outcome
+abbrev pub came_to : Result Answered Silent → (table answer cancel : List ℕ) → Outcome
 came_to r table answer cancel =
     record { number = number_of r; size = size_of r; verdict = said_by r; listed = listed_by r; table = table; answer = answer; cancel = cancel }
 

@@ -2,17 +2,17 @@
 // desk that holds the largest one. The program (crates/desk) only reads, calls and writes.
 ghost use Rattle.std.specs.Prelude.{◌≡◌, ℕ, ◌+◌, ◌≤◌, true, List, length, take, replicate};
 ghost use Rattle.wire.specs.Put.{put};
-ghost use Rattle.paper.specs.Desk.{empty_table, most_frame, answer_line, table_turn, request_turn, correction_turn, last_turn, size_right, frame_right, rest_size, by_frame_kind, turn};
+ghost use Rattle.paper.specs.Desk.{empty_table, most_frame, answer_line, table_turn, request_turn, correction_turn, size_right, frame_right, rest_size, turn};
 ghost use Rattle.dymosaw.specs.Serve.{number_of, size_of, said_by, listed_by};
-ghost use Rattle.dymosaw.specs.Desk.{table_room, line_room, turn_of, table_in, Holds, Made, Told};
+ghost use Rattle.dymosaw.specs.Desk.{table_room, line_room, turn_of, table_in, Framed, Made, Told};
 
 use crate::correct::dymosaw_correct;
 use crate::line::{plain, put_line};
-use crate::serve::{Served, serve};
+use crate::serve::{Answered, Silent, serve};
 use paper::layout::{CANCEL_SIZE, LEAST_ANSWER, MOST_RECORDS, RECORD_SIZE, TABLE_HEADER};
 use paper::{Line, Verdict};
 use table::valid::valid_table;
-use wire::number::get_u32;
+use wire::number::get;
 use wire::put::put_bytes;
 
 // The largest table.
@@ -34,61 +34,57 @@ pub const MOST_FRAME: usize = 65536;
 
 const DESK_VERSION: u8 = 1;
 
-const TABLE: u8 = 1;
-
-const REQUEST: u8 = 2;
-
-const CORRECTION: u8 = 3;
+// What a frame hands over, or asks for.
+#[derive(Clone, Copy, Debug, PartialEq, Eq)]
+pub enum Kind {
+    Table,
+    Request,
+    Correction,
+}
 
 // Where a run stands: how many bytes of the buffer are the table, and the number of the frame that comes.
-#[derive(Clone, Copy)]
+#[derive(Clone, Copy, Debug, PartialEq, Eq)]
 pub struct Desk {
     pub used: usize,
     pub number: u64,
 }
 
-// What a frame came to: what its line says, how many bytes of the buffer are the table after it, and whether the run goes on.
+// What a frame came to: what its line says, and how many bytes of the buffer are the table that the run goes on with, if it does.
 #[derive(Clone, Copy)]
 pub struct Turned {
     pub line: Line,
-    pub used: usize,
-    pub goes_on: bool,
+    pub used: Option<usize>,
 }
 
-// What the step hands back: where the run stands after the frame, how long the line is, and whether the run goes on.
-#[derive(Clone, Copy)]
+// What the step hands back: how long the line is, and where the run stands after the frame, if it goes on.
+#[derive(Clone, Copy, Debug, PartialEq, Eq)]
 pub struct Stepped {
-    pub desk: Desk,
     pub line: usize,
-    pub goes_on: bool,
+    pub next: Option<Desk>,
 }
 
 // ---- the three kinds
 
 // The answer's code, or the number of a refusal without one.
-fn answer_line(served: Served) -> Line
+fn answer_line(served: Result<Answered, Silent>) -> Line
     ensures { result ≡ answer_line (number_of served) (said_by served) (size_of served) (listed_by served) }
 {
     match served {
-        Served::Refused { number } => plain(b'R', number),
-        Served::Answered {
-            verdict,
-            length,
-            listed,
-        } => match verdict {
+        Err(refusal) => plain(b'R', u32::from(refusal)),
+        Ok(answered) => match answered.verdict {
             Verdict::Base(code) => Line {
                 letter: b'R',
                 experimental: false,
                 code: code.0,
-                size: length,
-                listed,
+                size: answered.length,
+                listed: answered.listed,
             },
             Verdict::Experimental(code) => Line {
                 letter: b'R',
                 experimental: true,
                 code: code.0,
-                size: length,
-                listed,
+                size: answered.length,
+                listed: answered.listed,
             },
         },
     }
@@ -111,106 +107,98 @@ fn request_line(table: &mut [u8], request: &[u8]) -> Line
     answer_line(served)
 }
 
+// The correction's number.
+fn correction_line(table: &mut [u8], frame: &[u8]) -> Line
+    ensures { turn_of result table.new true ≡ correction_turn table.old frame.now }
+{
+    let code = dymosaw_correct(table, frame);
+    plain(b'C', code)
+}
+
 // A valid table takes the place of the one that is there.
-fn table_turn(buffer: &mut [u8], used: usize, content: &[u8]) -> Turned
-    requires { Holds buffer.old used }
+fn table_turn(buffer: &mut [u8; TABLE_ROOM], used: usize, content: &[u8]) -> Turned
+    requires { used ≤ table_room }
     ensures { Made (table_turn (take used buffer.old) content.now) buffer.old buffer.new result }
 {
     if !valid_table(content) {
         return Turned {
             line: plain(b'T', 4),
-            used,
-            goes_on: true,
+            used: Some(used),
         };
     }
     put_bytes(buffer, 0, content);
     Turned {
         line: plain(b'T', 0),
-        used: content.len(),
-        goes_on: true,
-    }
-}
-
-fn request_turn(buffer: &mut [u8], used: usize, content: &[u8]) -> Turned
-    requires { Holds buffer.old used }
-    ensures { Made (request_turn (take used buffer.old) content.now) buffer.old buffer.new result }
-{
-    let line = request_line(&mut buffer[..used], content);
-    Turned {
-        line,
-        used,
-        goes_on: true,
-    }
-}
-
-fn correction_turn(buffer: &mut [u8], used: usize, content: &[u8]) -> Turned
-    requires { Holds buffer.old used }
-    ensures { Made (correction_turn (take used buffer.old) content.now) buffer.old buffer.new result }
-{
-    let code = dymosaw_correct(&mut buffer[..used], content);
-    Turned {
-        line: plain(b'C', code),
-        used,
-        goes_on: true,
+        used: Some(content.len()),
     }
 }
 
 // ---- any frame
 
-// "prints `n X 0 0 0`, n its number, and ends the run"
-fn last_turn(buffer: &[u8], used: usize) -> Turned
-    requires { Holds buffer.now used }
-    ensures { Made (last_turn (take used buffer.now)) buffer.now buffer.now result }
-{
-    Turned {
-        line: plain(b'X', 0),
-        used,
-        goes_on: false,
-    }
-}
-
 // A size that a frame may have.
+#[tactic(auto, unfolding(paper::specs::Desk::size_right))]
 fn size_right(n: usize) -> bool
     ensures { result ≡ size_right n }
 {
-    (DESK_HEAD <= n) & (n <= MOST_FRAME)
+    (DESK_HEAD..=MOST_FRAME).contains(&n)
 }
 
 // The frame is whole, of the right size and of version 1.
+#[tactic(auto, unfolding(paper::specs::Desk::frame_right))]
 fn frame_right(frame: &[u8]) -> bool
     ensures { result ≡ frame_right frame.now }
 {
     if frame.len() < DESK_HEAD {
         return false;
     }
-    let whole = get_u32(frame, 0) as usize;
-    size_right(whole) & ((frame.len() == whole) & (frame[VERSION_AT] == DESK_VERSION))
+    let whole = get::<u32>(frame, 0) as usize;
+    size_right(whole) && frame.len() == whole && frame[VERSION_AT] == DESK_VERSION
 }
 
-fn kind_turn(buffer: &mut [u8], used: usize, kind: u8, content: &[u8]) -> Turned
-    requires { Holds buffer.old used }
-    ensures { Made (by_frame_kind kind (take used buffer.old) content.now) buffer.old buffer.new result }
-{
-    if kind == TABLE {
-        return table_turn(buffer, used, content);
-    }
-    if kind == REQUEST {
-        return request_turn(buffer, used, content);
-    }
-    if kind == CORRECTION {
-        return correction_turn(buffer, used, content);
-    }
-    last_turn(buffer, used)
-}
-
-fn take_turn(buffer: &mut [u8], used: usize, frame: &[u8]) -> Turned
-    requires { Holds buffer.old used }
-    ensures { Made (turn (take used buffer.old) frame.now) buffer.old buffer.new result }
+// The kind of a right frame.
+fn frame_kind(frame: &[u8]) -> Option<Kind>
+    ensures { Framed frame.now result }
 {
     if !frame_right(frame) {
-        return last_turn(buffer, used);
+        return None;
     }
-    kind_turn(buffer, used, frame[KIND_AT], &frame[DESK_HEAD..])
+    match frame[KIND_AT] {
+        1 => Some(Kind::Table),
+        2 => Some(Kind::Request),
+        3 => Some(Kind::Correction),
+        _ => None,
+    }
+}
+
+// A frame of no kind "prints `n X 0 0 0`, n its number, and ends the run".
+fn take_turn(buffer: &mut [u8; TABLE_ROOM], used: usize, frame: &[u8]) -> Turned
+    requires { used ≤ table_room }
+    ensures { Made (turn (take used buffer.old) frame.now) buffer.old buffer.new result }
+{
+    let Some(kind) = frame_kind(frame) else {
+        return Turned {
+            line: plain(b'X', 0),
+            used: None,
+        };
+    };
+    let content = &frame[DESK_HEAD..];
+    match kind {
+        Kind::Table => table_turn(buffer, used, content),
+        Kind::Request => {
+            let line = request_line(&mut buffer[..used], content);
+            Turned {
+                line,
+                used: Some(used),
+            }
+        }
+        Kind::Correction => {
+            let line = correction_line(&mut buffer[..used], content);
+            Turned {
+                line,
+                used: Some(used),
+            }
+        }
+    }
 }
 
 // ---- the calls
@@ -242,7 +230,7 @@ pub fn rest_size(length: &[u8]) -> usize
     if length.len() < LENGTH_SIZE {
         return 0;
     }
-    let whole = get_u32(length, 0) as usize;
+    let whole = get::<u32>(length, 0) as usize;
     if size_right(whole) {
         whole - LENGTH_SIZE
     } else {
@@ -250,15 +238,7 @@ pub fn rest_size(length: &[u8]) -> usize
     }
 }
 
-// How many bytes of the buffer are the table: all of them where the desk says more.
-fn used_of(desk: Desk) -> usize
-    ensures { (result ≤ table_room) × ((b : List ℕ) → length b ≡ table_room → take result b ≡ table_in desk b) }
-{
-    let used = desk.used;
-    if used < TABLE_ROOM { used } else { TABLE_ROOM }
-}
-
-// A frame, as far as it was read, on the table in the buffer; its line goes to the start of `line`.
+// A frame, as far as it was read, on the table in the buffer; its line goes to the start of `line`. All of the buffer is the table where the desk says more.
 pub fn step(
     buffer: &mut [u8; TABLE_ROOM],
     desk: Desk,
@@ -268,14 +248,11 @@ pub fn step(
     ensures told { Told (turn (table_in desk buffer.old) frame.now) desk buffer.old line.old buffer.new line.new result }
     ensures line_fits { result.line ≤ line_room }
 {
-    let turned = take_turn(buffer, used_of(desk), frame);
+    let turned = take_turn(buffer, desk.used.min(TABLE_ROOM), frame);
     let length = put_line(line, desk.number, turned.line);
+    let number = std::num::wrapping_add_u64(desk.number, 1);
     Stepped {
-        desk: Desk {
-            used: turned.used,
-            number: std::num::wrapping_add_u64(desk.number, 1),
-        },
         line: length,
-        goes_on: turned.goes_on,
+        next: turned.used.map(|used| Desk { used, number }),
     }
 }

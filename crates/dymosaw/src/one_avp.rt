@@ -6,7 +6,8 @@ ghost use Rattle.avp.specs.Step.{step_at};
 ghost use Rattle.avp.specs.Written.{came_to, avp_written};
 
 use avp::cursor::{Cursor, Step};
-use avp::write::Written;
+use avp::write::NoRoom;
+use dictionary::Key;
 
 // What stands at a place: an AVP that lies inside the stretch, with the place behind its padding; nothing, where the stretch ends; or no such AVP.
 // That the stretch is bytes is in its type; a caller learns it here.
@@ -26,8 +27,8 @@ pub fn write_avp(
     code: u32,
     mandatory: bool,
     body: &[u8],
-) -> Written
+) -> Result<usize, NoRoom>
     ensures { came_to result out.new ≡ avp_written out.old at vendor code mandatory body.now }
 {
-    avp::write::write_avp(out, at, vendor, code, mandatory, body)
+    avp::write::write_avp(out, at, Key { vendor, code }, mandatory, body)
 }

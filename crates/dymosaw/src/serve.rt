@@ -1,56 +1,80 @@
 // A request from its bytes to the answer's bytes, the record and the list of nodes to cancel. It is decided first, with every buffer only read, and
 // written after. `serve` is the call for Rattle, `dymosaw_request` the one for C, which crates/dymosaw_c exports.
-ghost use Rattle.std.specs.Prelude.{◌≡◌, ℕ, ◌+◌, ◌<◌, ◌≤◌, List, [], length};
+ghost use Rattle.std.specs.Prelude.{◌≡◌, ℕ, ◌+◌, ◌<◌, ◌≤◌, List, [], length, true, Ok, None, unwrap_or};
 ghost use Rattle.std.proofs.Math.Option.{none};
 ghost use Rattle.wire.specs.Number.{num_at, Bytes};
-ghost use Rattle.answer.specs.Ask.{AnswerAsk};
+ghost use Rattle.answer.specs.Ask.{AnswerAsk, said};
 ghost use Rattle.paper.specs.Asked.{asked_of};
+ghost use Rattle.paper.specs.Avp.{bit};
 ghost use Rattle.paper.specs.Fields.{filled};
 ghost use Rattle.paper.specs.Layout.{most_digits, least_request, cancel_size, ambr_at};
 ghost use Rattle.paper.specs.Outcome.{outcome, answered, success_items, by_refusal, by_record, by_verdict};
 ghost use Rattle.paper.specs.Passed.{Passed};
 ghost use Rattle.paper.specs.Procedures.{Done, restriction_of, imsi_field, experimental, sender as sender_of};
 ghost use Rattle.paper.specs.Request.{is_request, refusal};
-ghost use Rattle.paper.specs.Shown.{extra_of, reply_of};
+ghost use Rattle.paper.specs.Shown.{extra_of};
 ghost use Rattle.paper.specs.Table.{record_of, lookup};
-ghost use Rattle.paper.specs.declared.Extra.TheVariants as Extra;
+ghost use Rattle.paper.specs.declared.Verdict.TheVariants.{Experimental};
 ghost use Rattle.procedures.specs.Values.{Held};
 ghost use Rattle.request.specs.Accepted.{Accepts};
-ghost use Rattle.request.specs.Held.{Places};
-ghost use Rattle.dymosaw.specs.Serve.{lent, came_to, Is, silent_number, entry_at, entries_in, Ready};
+ghost use Rattle.dymosaw.specs.Serve.{lent, came_to, Is, number_refused, silent_number, entry_at, entries_in, Ready};
 
 use answer::answer::put_answer;
+use answer::reply::{Own, Reply};
 use avp::find::origin_host;
-use dictionary::{all_keys, all_kinds};
 use paper::layout::{
     CANCEL_SIZE, ENTRY_SIZE, IMSI_SIZE, LEAST_ANSWER, LEAST_REQUEST, MOST_REQUEST,
 };
-use paper::{Asked, ExperimentalCode, Extra, Failed, ResultCode, Verdict};
+use paper::{Asked, ExperimentalCode, Extra, ResultCode, Subscription, Verdict};
 use procedures::cancel::no_entries;
 use procedures::carry::carry_out;
-use procedures::verdict::{Ruling, verdict};
+use procedures::verdict::verdict;
 use request::accept::{Accepted, accept};
 use request::judge::judge;
-use request::noted::note;
-use request::place::bytes_in;
+use request::noted::{Noted, note};
 use request::profile::{Command, command_of};
-use request::tests::Test;
 use request::values::is_name;
-use table::lookup::{Found, find_record};
-use table::record::{downlink, restriction, uplink};
+use table::lookup::find_record;
+use table::record::Record;
 use table::valid::valid_table;
 
-// What a request comes to: refused without an answer, by 01's number, or answered. `listed` counts the nodes to cancel.
-#[derive(Clone, Copy)]
-pub enum Served {
-    Refused {
-        number: u32,
-    },
-    Answered {
-        verdict: Verdict,
-        length: usize,
-        listed: usize,
-    },
+// What an answered request came to: what the answer says, its length, and how many nodes are listed to cancel.
+#[derive(Clone, Copy, Debug, PartialEq, Eq)]
+pub struct Answered {
+    pub verdict: Verdict,
+    pub length: usize,
+    pub listed: usize,
+}
+
+// Why a request gets no answer: every buffer is then as it came. specs/Serve.antt gives each its number.
+#[derive(Clone, Copy, Debug, PartialEq, Eq)]
+pub enum Silent {
+    // a request under 20 or over 4,096 bytes
+    RequestSize,
+    // R bit clear
+    NotRequest,
+    // answer or cancel buffer too short
+    ShortBuffer,
+    TableNotValid,
+    // own host or realm
+    OwnNameNotValid,
+}
+
+// The number of 01's list.
+impl From<Silent> for u32 {
+    ghost use Rattle.dymosaw.specs.Serve.{number_of_silent};
+
+    ghost from_gives = { λ refusal n. n ≡ number_of_silent refusal };
+
+    fn from(refusal: Silent) -> u32 {
+        match refusal {
+            Silent::RequestSize => 1,
+            Silent::NotRequest => 2,
+            Silent::ShortBuffer => 3,
+            Silent::TableNotValid => 4,
+            Silent::OwnNameNotValid => 5,
+        }
+    }
 }
 
 // ---- the refusals without an answer
@@ -63,37 +87,37 @@ fn is_request(request: &[u8]) -> bool
     (request[4] >> 7) % 2 == 1
 }
 
-// The number of the first that applies, 0 where none does.
-fn silent_number(
+// The first that applies, "Tested in this order"; every test is made, whichever fails.
+fn admit(
     table: &[u8],
     request: &[u8],
     host: &[u8],
     realm: &[u8],
     answer: &[u8],
     cancel: &[u8],
-) -> u32
-    ensures { result ≡ silent_number (lent table.now request.now host.now realm.now answer.now cancel.now) }
+) -> Result<(), Silent>
+    ensures { number_refused result ≡ silent_number (lent table.now request.now host.now realm.now answer.now cancel.now) }
 {
     let short = (answer.len() < LEAST_ANSWER) | (cancel.len() < CANCEL_SIZE);
     let named = is_name(host) & is_name(realm);
     let valid = valid_table(table);
     let misfit = (request.len() < LEAST_REQUEST) | (MOST_REQUEST < request.len());
     if short {
-        return 3;
+        return Err(Silent::ShortBuffer);
     }
     if !named {
-        return 5;
+        return Err(Silent::OwnNameNotValid);
     }
     if !valid {
-        return 4;
+        return Err(Silent::TableNotValid);
     }
     if misfit {
-        return 1;
+        return Err(Silent::RequestSize);
     }
     if !is_request(request) {
-        return 2;
+        return Err(Silent::NotRequest);
     }
-    0
+    Ok(())
 }
 
 // ---- refusals with an answer
@@ -101,32 +125,32 @@ fn silent_number(
 // The answer of a refusal, Experimental ones too, and an empty list. The table is not lent: it stays as it is.
 fn put_refusal(
     request: &[u8],
-    host: &[u8],
-    realm: &[u8],
-    verdict: Verdict,
-    failed: Failed,
-    echo: bool,
+    own: Own<'_>,
+    reply: Reply,
     answer: &mut [u8],
     cancel: &mut [u8],
-) -> Served
-    requires { AnswerAsk answer.old request.now host.now realm.now failed (reply_of request.now verdict failed Extra.Nothing echo) × (cancel_size ≤ length cancel.old) }
-    ensures { (t : List ℕ) → came_to result t answer.new cancel.new ≡ answered (lent t request.now host.now realm.now answer.old cancel.old) t [] (reply_of request.now verdict failed Extra.Nothing echo) }
+) -> Answered
+    requires { AnswerAsk answer.old request.now own.host.now own.realm.now reply.failed (said request.now reply) × (cancel_size ≤ length cancel.old) }
+    ensures { (t : List ℕ) → came_to (Ok result) t answer.new cancel.new ≡ answered (lent t request.now own.entry.host.now own.entry.realm.now answer.old cancel.old) t [] (said request.now reply) }
 {
     no_entries(cancel);
-    let length = put_answer(
-        answer,
-        request,
-        host,
-        realm,
-        verdict,
-        failed,
-        Extra::Nothing,
-        echo,
-    );
-    Served::Answered {
-        verdict,
+    let length = put_answer(answer, request, own, reply);
+    Answered {
+        verdict: reply.verdict,
         length,
         listed: 0,
+    }
+}
+
+// What an Experimental-Result replies.
+fn experimental(code: ExperimentalCode) -> Reply
+    ensures { result ≡ record { verdict = Experimental code; failed = None; extra = None; echo = true } }
+{
+    Reply {
+        verdict: Verdict::Experimental(code),
+        failed: None,
+        extra: None,
+        echo: true,
     }
 }
 
@@ -144,20 +168,42 @@ fn imsi_field(digits: &[u8]) -> [u8; IMSI_SIZE]
     field
 }
 
-// The AVPs of a success: ULA-Flags and Subscription-Data, PUA-Flags, or nothing more.
-fn extra_of(asked: Asked, restriction: u32, uplink: u32, downlink: u32, purges: u32) -> Extra
-    ensures { (m r : List ℕ) (d : Done) → asked ≡ asked_of m → restriction ≡ restriction_of r → uplink ≡ num_at 4 r ambr_at → downlink ≡ num_at 4 r (ambr_at + 4) → purges ≡ d.purges → extra_of result ≡ success_items m r d }
+// The numbers of Subscription-Data that record `i` holds.
+fn subscription_of(table: &[u8], i: usize) -> Subscription
+    requires { Held table.now i }
+    ensures restriction { result.restriction ≡ restriction_of (record_of table.now i) }
+    ensures uplink { result.uplink ≡ num_at 4 (record_of table.now i) ambr_at }
+    ensures downlink { result.downlink ≡ num_at 4 (record_of table.now i) (ambr_at + 4) }
 {
-    match command_of(asked.command) {
-        Command::Ulr => Extra::Ula {
-            skip: (asked.flags >> 2) % 2 == 1,
-            restriction,
-            uplink,
-            downlink,
-        },
-        Command::Pur => Extra::Pua { flags: purges },
-        Command::Nor => Extra::Nothing,
-        Command::Other => Extra::Nothing,
+    let r = Record::at(table, i);
+    Subscription {
+        restriction: r.restriction(),
+        uplink: r.uplink(),
+        downlink: r.downlink(),
+    }
+}
+
+// Skip-Subscriber-Data of ULR-Flags.
+fn skips(flags: Option<u32>) -> bool
+    ensures { result ≡ bit 2 (unwrap_or flags 0) }
+{
+    (flags.unwrap_or(0) >> 2) % 2 == 1
+}
+
+// The AVPs of a success: ULA-Flags and Subscription-Data, PUA-Flags, or nothing more.
+fn extra_of(asked: Asked, subscription: Subscription, purges: u32) -> Option<Extra>
+    ensures { (m r : List ℕ) (d : Done) → asked ≡ asked_of m → subscription.restriction ≡ restriction_of r → subscription.uplink ≡ num_at 4 r ambr_at → subscription.downlink ≡ num_at 4 r (ambr_at + 4) → purges ≡ d.purges → extra_of result ≡ success_items m r d }
+{
+    match command_of(asked.command)? {
+        Command::Ulr => Some(Extra::Ula {
+            subscription: if skips(asked.flags) {
+                None
+            } else {
+                Some(subscription)
+            },
+        }),
+        Command::Pur => Some(Extra::Pua { flags: purges }),
+        Command::Nor => None,
     }
 }
 
@@ -184,33 +230,24 @@ fn grant(
     accepted: Accepted,
     sender: &[u8],
     request: &[u8],
-    host: &[u8],
-    realm: &[u8],
+    own: Own<'_>,
     answer: &mut [u8],
     cancel: &mut [u8],
-) -> Served
-    requires { Ready (lent table.old request.now host.now realm.now answer.old cancel.old) × Held table.old i × Accepts request.now accepted × (sender.now ≡ sender_of request.now) }
-    ensures { came_to result table.new answer.new cancel.new ≡ by_verdict (lent table.old request.now host.now realm.now answer.old cancel.old) i (record_of table.old i) none }
+) -> Answered
+    requires { Ready (lent table.old request.now own.host.now own.realm.now answer.old cancel.old) × Held table.old i × Accepts request.now accepted × (sender.now ≡ sender_of request.now) }
+    ensures { came_to (Ok result) table.new answer.new cancel.new ≡ by_verdict (lent table.old request.now own.entry.host.now own.entry.realm.now answer.old cancel.old) i (record_of table.old i) none }
 {
-    let restriction = restriction(table, i);
-    let uplink = uplink(table, i);
-    let downlink = downlink(table, i);
-    let imei = bytes_in(request, accepted.imei);
-    let purges = carry_out(table, i, accepted.asked, sender, imei, cancel);
-    let extra = extra_of(accepted.asked, restriction, uplink, downlink, purges);
-    let verdict = Verdict::Base(ResultCode(2001));
-    let length = put_answer(
-        answer,
-        request,
-        host,
-        realm,
-        verdict,
-        Failed::Nothing,
-        extra,
-        true,
-    );
-    Served::Answered {
-        verdict,
+    let subscription = subscription_of(table, i);
+    let purges = carry_out(table, i, accepted.asked, sender, accepted.imei, cancel);
+    let reply = Reply {
+        verdict: Verdict::Base(ResultCode(2001)),
+        failed: None,
+        extra: extra_of(accepted.asked, subscription, purges),
+        echo: true,
+    };
+    let length = put_answer(answer, request, own, reply);
+    Answered {
+        verdict: reply.verdict,
         length,
         listed: entries_in(cancel),
     }
@@ -223,29 +260,16 @@ fn serve_record(
     accepted: Accepted,
     sender: &[u8],
     request: &[u8],
-    host: &[u8],
-    realm: &[u8],
+    own: Own<'_>,
     answer: &mut [u8],
     cancel: &mut [u8],
-) -> Served
-    requires { Ready (lent table.old request.now host.now realm.now answer.old cancel.old) × Held table.old i × Accepts request.now accepted × (sender.now ≡ sender_of request.now) }
-    ensures { came_to result table.new answer.new cancel.new ≡ by_verdict (lent table.old request.now host.now realm.now answer.old cancel.old) i (record_of table.old i) (experimental request.now (record_of table.old i)) }
+) -> Answered
+    requires { Ready (lent table.old request.now own.host.now own.realm.now answer.old cancel.old) × Held table.old i × Accepts request.now accepted × (sender.now ≡ sender_of request.now) }
+    ensures { came_to (Ok result) table.new answer.new cancel.new ≡ by_verdict (lent table.old request.now own.entry.host.now own.entry.realm.now answer.old cancel.old) i (record_of table.old i) (experimental request.now (record_of table.old i)) }
 {
-    let plmn = bytes_in(request, accepted.visited_plmn);
-    match verdict(table, i, accepted.asked, sender, plmn) {
-        Ruling::Experimental(code) => put_refusal(
-            request,
-            host,
-            realm,
-            Verdict::Experimental(code),
-            Failed::Nothing,
-            true,
-            answer,
-            cancel,
-        ),
-        Ruling::Fine => grant(
-            table, i, accepted, sender, request, host, realm, answer, cancel,
-        ),
+    match verdict(table, i, accepted.asked, sender, accepted.visited_plmn) {
+        Err(code) => put_refusal(request, own, experimental(code), answer, cancel),
+        Ok(()) => grant(table, i, accepted, sender, request, own, answer, cancel),
     }
 }
 
@@ -253,30 +277,24 @@ fn serve_record(
 // "Origin-Host, once found, is handed on as that stretch of the request itself": `sender`, compared and stored below.
 fn serve_accepted(
     table: &mut [u8],
-    request: &[u8],
-    places: &[usize],
-    host: &[u8],
-    realm: &[u8],
+    noted: &Noted,
+    own: Own<'_>,
     answer: &mut [u8],
     cancel: &mut [u8],
-) -> Served
-    requires { Ready (lent table.old request.now host.now realm.now answer.old cancel.old) × Places request.now places.now }
-    ensures { came_to result table.new answer.new cancel.new ≡ by_record (lent table.old request.now host.now realm.now answer.old cancel.old) (lookup (imsi_field request.now) table.old) }
+) -> Answered
+    requires { Ready (lent table.old noted.now.request.now own.host.now own.realm.now answer.old cancel.old) }
+    ensures { came_to (Ok result) table.new answer.new cancel.new ≡ by_record (lent table.old noted.now.request.now own.entry.host.now own.entry.realm.now answer.old cancel.old) (lookup (imsi_field noted.now.request.now) table.old) }
 {
-    let accepted = accept(request, places);
+    let request = noted.request;
+    let accepted = accept(noted);
     let sender = origin_host(request);
-    let imsi = imsi_field(bytes_in(request, accepted.user_name));
+    let imsi = imsi_field(accepted.user_name);
     match find_record(table, &imsi) {
-        Found::At(i) => serve_record(
-            table, i, accepted, sender, request, host, realm, answer, cancel,
-        ),
-        Found::Nothing => put_refusal(
+        Some(i) => serve_record(table, i, accepted, sender, request, own, answer, cancel),
+        None => put_refusal(
             request,
-            host,
-            realm,
-            Verdict::Experimental(ExperimentalCode(5001)),
-            Failed::Nothing,
-            true,
+            own,
+            experimental(ExperimentalCode(5001)),
             answer,
             cancel,
         ),
@@ -285,34 +303,32 @@ fn serve_accepted(
 
 // ---- the call
 
-// A request that gets an answer. The dictionary's arrays and the places of the used AVPs are made here and lent down.
+// A request that gets an answer.
 fn serve_request(
     table: &mut [u8],
     request: &[u8],
-    host: &[u8],
-    realm: &[u8],
+    own: Own<'_>,
     answer: &mut [u8],
     cancel: &mut [u8],
-) -> Served
-    requires { Passed (lent table.old request.now host.now realm.now answer.old cancel.old) }
-    ensures { came_to result table.new answer.new cancel.new ≡ by_refusal (lent table.old request.now host.now realm.now answer.old cancel.old) (refusal request.now) }
+) -> Answered
+    requires { Passed (lent table.old request.now own.host.now own.realm.now answer.old cancel.old) }
+    ensures { came_to (Ok result) table.new answer.new cancel.new ≡ by_refusal (lent table.old request.now own.entry.host.now own.entry.realm.now answer.old cancel.old) (refusal request.now) }
 {
-    let keys = all_keys();
-    let kinds = all_kinds();
     let noted = note(request);
-    let places = noted.places;
-    match judge(&keys, &kinds, request, &places, noted.again) {
-        Test::Fails { code, failed, echo } => put_refusal(
+    match judge(&noted) {
+        Err(refusal) => put_refusal(
             request,
-            host,
-            realm,
-            Verdict::Base(code),
-            failed,
-            echo,
+            own,
+            Reply {
+                verdict: Verdict::Base(refusal.code),
+                failed: refusal.failed,
+                extra: None,
+                echo: refusal.echo,
+            },
             answer,
             cancel,
         ),
-        Test::Fine => serve_accepted(table, request, &places, host, realm, answer, cancel),
+        Ok(()) => serve_accepted(table, &noted, own, answer, cancel),
     }
 }
 
@@ -324,15 +340,12 @@ pub fn serve(
     realm: &[u8],
     answer: &mut [u8],
     cancel: &mut [u8],
-) -> Served
+) -> Result<Answered, Silent>
     ensures comes_to { came_to result table.new answer.new cancel.new ≡ outcome (lent table.old request.now host.now realm.now answer.old cancel.old) }
     ensures bytes { Bytes request.now }
 {
-    let number = silent_number(table, request, host, realm, answer, cancel);
-    if number != 0 {
-        return Served::Refused { number };
-    }
-    serve_request(table, request, host, realm, answer, cancel)
+    admit(table, request, host, realm, answer, cancel)?;
+    Ok(serve_request(table, request, Own { host, realm }, answer, cancel))
 }
 
 // The same for C: the high 32 bits are the refusal's number, 0 where there is an answer, and the low 32 bits the answer's length.
@@ -348,11 +361,7 @@ pub fn dymosaw_request(
     ensures bytes { Bytes request.now }
 {
     match serve(table, request, host, realm, answer, cancel) {
-        Served::Refused { number } => (number as u64) * 4294967296,
-        Served::Answered {
-            verdict: _,
-            length,
-            listed: _,
-        } => length as u64,
+        Ok(answered) => answered.length as u64,
+        Err(refusal) => u64::from(u32::from(refusal)) * 4294967296,
     }
 }

@@ -9,8 +9,8 @@ use native.Mathlib.Omega.{arith}
 use lib.Dec.{leb, eqb}
 use lib.ListN.{length}
 use borrow.Author.Tests.{eqb-true, leb-true}
+use Rattle.std.proofs.lemmas.Bool.{and_parts}
 use Rattle.wire.specs.Stretch.{digits}
-use Rattle.wire.proofs.ListLaws.{and-true-left, and-true-right}
 use Rattle.paper.specs.Layout.{imsi_size, least_imsi, most_digits}
 use Rattle.paper.specs.Reader.{Placed, Avps}
 use Rattle.paper.specs.Find.{body_found}
@@ -42,8 +42,8 @@ host-common = by-command (λ c. Common origin_host (command_of c)) (record { req
 
 there_again : (k j : Key) (l : Avps) → eqb k.vendor j.vendor && eqb k.code j.code ≡ true → is_there (find j l) ≡ true → is_there (find k l) ≡ true
 there_again k j l e h =
-    let v = eqb-true k.vendor j.vendor (and-true-left (eqb k.vendor j.vendor) (eqb k.code j.code) e) in
-    let c = eqb-true k.code j.code (and-true-right (eqb k.vendor j.vendor) (eqb k.code j.code) e) in
+    let v = eqb-true k.vendor j.vendor (and_parts (eqb k.vendor j.vendor) (eqb k.code j.code) e).0 in
+    let c = eqb-true k.code j.code (and_parts (eqb k.vendor j.vendor) (eqb k.code j.code) e).1 in
     rw (v, c) h
 
 pub required-there : (ks : List Key) (k : Key) (l : Avps) → first_absent ks l ≡ none → has k ks ≡ true → is_there (find k l) ≡ true
@@ -112,7 +112,7 @@ module _ (m : List ℕ) (n : refusal m ≡ none) where
   user-few =
       let x = value_of user_name m in
       leb-true (length x) most_digits
-      (and-true-right (leb least_imsi (length x)) (leb (length x) most_digits) (and-true-left (leb least_imsi (length x) && leb (length x) most_digits) (digits x) user-digits))
+      (and_parts (leb least_imsi (length x)) (leb (length x) most_digits) (and_parts (leb least_imsi (length x) && leb (length x) most_digits) (digits x) user-digits).0).1
 
   -- the IMSI "as stored" has 16 bytes
   pub length-imsi : length (imsi_field m) ≡ imsi_size

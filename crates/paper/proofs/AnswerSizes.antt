@@ -9,9 +9,9 @@ use native.Mathlib.Omega.{arith}
 use lib.ListN.{length, length-append}
 use lib.Dec.{leb, eqb}
 use borrow.Author.Tests.{leb-true}
+use Rattle.std.proofs.lemmas.Bool.{and_parts}
 use Rattle.wire.specs.Number.{be}
 use Rattle.wire.specs.Stretch.{name_bytes}
-use Rattle.wire.proofs.ListLaws.{and-true-left, and-true-right}
 use Rattle.paper.specs.Avp.{head_size, padded, flags_for, vendor_field, as_received, written}
 use Rattle.paper.specs.Layout.{longest_answer}
 use Rattle.paper.specs.Profile.{Key, bandwidth_downlink, bandwidth_uplink, subscription_data, ula_flags, subscriber_status, access_restriction_data, ambr, pua_flags}
@@ -72,7 +72,7 @@ success-fours m r d =
 pub name-most : (x : List ℕ) → is_name x ≡ true → length x ≤ 64
 unfolding is_name
 name-most x e =
-    leb-true (length x) 64 (and-true-right (leb 1 (length x)) (leb (length x) 64) (and-true-left (leb 1 (length x) && leb (length x) 64) (name_bytes x) e))
+    leb-true (length x) 64 (and_parts (leb 1 (length x)) (leb (length x) 64) (and_parts (leb 1 (length x) && leb (length x) 64) (name_bytes x) e).0).1
 
 name_takes : (code : ℕ) (x : List ℕ) → is_name x ≡ true → length (item (record { vendor = 0; code = code }) x) ≤ 72
 unfolding padded

@@ -9,9 +9,10 @@ use lib.ListN.{length, take, drop, get_or, length-append, length-drop, take-appe
 use lib.Seq.{drop_at, drop-drop, get_or-take, get_or-drop, length-take-le}
 use lib.Dec.{leb}
 use borrow.Author.Tests.{le-leb, lt-leb, leb-true}
+use Rattle.std.proofs.lemmas.Bool.{and_from, and_left, and_parts, and_right}
 use Rattle.wire.specs.Number.{num_at}
 use Rattle.wire.specs.Put.{part}
-use Rattle.wire.proofs.ListLaws.{and-true-left, and-true-right, and-true_both, and-false-left, and-false-right, length_part, part-append-left}
+use Rattle.wire.proofs.ListLaws.{length_part, part-append-left}
 use Rattle.wire.proofs.NumberLaws.{num_at_agree, num_at-drop}
 use Rattle.paper.specs.Avp.{has_v, head_size, padded, code_of, flags_of, length_of, vendor_of, framed, body_of, after, avp_of}
 use Rattle.paper.specs.Widened.{OneAvp}
@@ -105,19 +106,19 @@ inside_test s = leb (padded (length_of s)) (length s)
 
 pub framed-sizes : (s : List ℕ) → framed s ≡ true → Framed s
 unfolding framed
-framed-sizes s e = record { long = leb-true _ _ (and-true-left (long_test s) (inside_test s) e); inside = leb-true _ _ (and-true-right (long_test s) (inside_test s) e) }
+framed-sizes s e = record { long = leb-true _ _ (and_parts (long_test s) (inside_test s) e).0; inside = leb-true _ _ (and_parts (long_test s) (inside_test s) e).1 }
 
 pub sizes-framed : (s : List ℕ) → head_size (flags_of s) ≤ length_of s → padded (length_of s) ≤ length s → framed s ≡ true
 unfolding framed
-sizes-framed s a b = and-true_both (long_test s) (inside_test s) (le-leb _ _ a) (le-leb _ _ b)
+sizes-framed s a b = and_from (long_test s) (inside_test s) (le-leb _ _ a) (le-leb _ _ b)
 
 pub short_unframed : (s : List ℕ) → length_of s < head_size (flags_of s) → framed s ≡ false
 unfolding framed
-short_unframed s a = and-false-left (long_test s) (inside_test s) (lt-leb _ _ a)
+short_unframed s a = and_left (long_test s) (inside_test s) (lt-leb _ _ a)
 
 pub outside_unframed : (s : List ℕ) → length s < padded (length_of s) → framed s ≡ false
 unfolding framed
-outside_unframed s a = and-false-right (long_test s) (inside_test s) (lt-leb _ _ a)
+outside_unframed s a = and_right (long_test s) (inside_test s) (lt-leb _ _ a)
 
 -- too few bytes for the header that the flags ask for
 pub stump_unframed : (s : List ℕ) → length s < head_size (flags_of s) → framed s ≡ false

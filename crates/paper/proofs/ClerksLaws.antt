@@ -11,8 +11,8 @@ use native.Mathlib.Nat.{zero-add, suc-add}
 use native.Mathlib.Omega.{arith}
 use lib.Dec.{eqb}
 use borrow.Author.Tests.{eqb-true, eqb-false, eq-eqb}
+use Rattle.std.proofs.lemmas.Bool.{and_parts}
 use Rattle.wire.specs.Stretch.{same}
-use Rattle.wire.proofs.ListLaws.{and-true-left, and-true-right}
 use Rattle.wire.proofs.StretchLaws.{same_true, same_refl, same_false}
 use Rattle.paper.specs.Table.{record_of, imsi_of, change_of, lookup}
 use Rattle.paper.specs.Correction.{frame_imsi, frame_seen, next_change, corrected}
@@ -68,8 +68,8 @@ module _ (imsi t f : List ℕ) where
   own_step : accepts imsi t f ≡ true → change_of (record_with imsi (corrected t f).table) ≡ next_change (change_of (record_with imsi t))
   unfolding accepts record_with record_at_place record_of next_change
   own_step e =
-      let p = passed t f (eqb-true _ _ (and-true-left (eqb (corrected t f).number 0) (same (frame_imsi f) imsi) e)) in
-      let named : frame_imsi f ≡ imsi = same_true (frame_imsi f) imsi (and-true-right (eqb (corrected t f).number 0) (same (frame_imsi f) imsi) e) in
+      let p = passed t f (eqb-true _ _ (and_parts (eqb (corrected t f).number 0) (same (frame_imsi f) imsi) e).0) in
+      let named : frame_imsi f ≡ imsi = same_true (frame_imsi f) imsi (and_parts (eqb (corrected t f).number 0) (same (frame_imsi f) imsi) e).1 in
       let a = passed_alters t f p in
       let found : lookup imsi t ≡ some p.place = ap (λ (x : List ℕ). lookup x t) (sym named) ∙ p.found in
       let after : record_at_place (lookup imsi (corrected t f).table) (corrected t f).table ≡ record_of (corrected t f).table p.place =

@@ -10,8 +10,8 @@ use native.Mathlib.Omega.{arith}
 use lib.ListN.{length, get_or}
 use lib.Dec.{ltb, eqb}
 use borrow.Author.Tests.{ltb-true}
+use Rattle.std.proofs.lemmas.Bool.{and_parts}
 use Rattle.wire.specs.Number.{num_at}
-use Rattle.wire.proofs.ListLaws.{and-true-left, and-true-right}
 use Rattle.paper.specs.Table.{valid, lookup, record_of, change_of}
 use Rattle.paper.specs.Correction.{frame_head, frame_version, frame_kind, frame_imsi, frame_seen, frame_value, value_size, value_right, Corrected, accepted, refused, on_record, corrected}
 use Rattle.paper.specs.Clerks.{record_at_place, record_with, is_none, Case, First, first, later, none_holds}
@@ -54,12 +54,12 @@ none_number t f (c ∷ cs) e = go (c.holds t f) refl (none_number t f cs)
 pub number_none : (t f : List ℕ) (cs : List Case) → positive cs ≡ true → first_number t f cs ≡ 0 → none_holds t f cs ≡ true
 unfolding first_number none_holds positive
 number_none t f [] p e = refl
-number_none t f (c ∷ cs) p e = go (c.holds t f) refl (number_none t f cs (and-true-right (ltb 0 c.number) (positive cs) p))
+number_none t f (c ∷ cs) p e = go (c.holds t f) refl (number_none t f cs (and_parts (ltb 0 c.number) (positive cs) p).1)
   where
     go : (b : Bool) → c.holds t f ≡ b → (first_number t f cs ≡ 0 → none_holds t f cs ≡ true) → not (c.holds t f) && none_holds t f cs ≡ true
     go true h more =
         let k : c.number ≡ 0 = rw h at e in
-        let q : 0 < c.number = ltb-true 0 c.number (and-true-left (ltb 0 c.number) (positive cs) p) in
+        let q : 0 < c.number = ltb-true 0 c.number (and_parts (ltb 0 c.number) (positive cs) p).0 in
         absurd (omega arith)
     go false h more = let k : first_number t f cs ≡ 0 = rw h at e in rw h (more k)
 

@@ -11,9 +11,9 @@ use lib.ListN.{length, take, drop, get_or, length-drop}
 use lib.Seq.{take-length}
 use lib.Dec.{leb, ltb, eqb}
 use borrow.Author.Tests.{eqb-true, eqb-false, not-false, not-true}
+use Rattle.std.proofs.lemmas.Bool.{and_parts}
 use Rattle.wire.specs.Number.{be, num_at}
 use Rattle.wire.specs.Put.{put}
-use Rattle.wire.proofs.ListLaws.{and-true-left, and-true-right}
 use Rattle.wire.proofs.PutLaws.{put-before, put-after, read_back}
 use Rattle.paper.specs.Layout.{record_size, change_at, subscription_at, restriction_at, plmn_count_at, plmns_at, ambr_at}
 use Rattle.paper.specs.Table.{record_right, record_at, record_of, count_of, imsi_of, change_of, valid, lookup}
@@ -137,27 +137,27 @@ pub passed : (t f : List ℕ) → (corrected t f).number ≡ 0 → Passed t f
 unfolding none_holds tests record_with record_at_place
 passed t f e =
     let n₀ = no_case_holds t f e in
-    let n₁ = and-true-right (not (not (valid t))) _ n₀ in
+    let n₁ = (and_parts (not (not (valid t))) _ n₀).1 in
     let short = ltb (length f) frame_head || not (eqb (num_at 2 f 0) (length f)) in
-    let n₂ = and-true-right (not short) _ n₁ in
+    let n₂ = (and_parts (not short) _ n₁).1 in
     let version = not (eqb (get_or f 2 0) frame_version) in
-    let n₃ = and-true-right (not version) _ n₂ in
+    let n₃ = (and_parts (not version) _ n₂).1 in
     let kind = eqb (value_size (frame_kind f)) 0 in
-    let n₄ = and-true-right (not kind) _ n₃ in
+    let n₄ = (and_parts (not kind) _ n₃).1 in
     let sized = eqb (length f) (frame_head + value_size (frame_kind f)) in
-    let n₅ = and-true-right (not (not sized)) _ n₄ in
+    let n₅ = (and_parts (not (not sized)) _ n₄).1 in
     let value = value_right (frame_kind f) (frame_value f) in
-    let n₆ = and-true-right (not (not value)) _ n₅ in
-    let n₇ = and-true-right (not (is_none (lookup (frame_imsi f) t))) _ n₆ in
-    let e₀ : valid t ≡ true = not-false _ (not-true _ (and-true-left (not (not (valid t))) _ n₀)) in
-    let e₁ : short ≡ false = not-true _ (and-true-left (not short) _ n₁) in
-    let e₂ : version ≡ false = not-true _ (and-true-left (not version) _ n₂) in
-    let e₃ : kind ≡ false = not-true _ (and-true-left (not kind) _ n₃) in
-    let e₄ : sized ≡ true = not-false _ (not-true _ (and-true-left (not (not sized)) _ n₄)) in
-    let e₅ : value ≡ true = not-false _ (not-true _ (and-true-left (not (not value)) _ n₅)) in
-    let at = some_place (lookup (frame_imsi f) t) (not-true _ (and-true-left (not (is_none (lookup (frame_imsi f) t))) _ n₆)) in
+    let n₆ = (and_parts (not (not value)) _ n₅).1 in
+    let n₇ = (and_parts (not (is_none (lookup (frame_imsi f) t))) _ n₆).1 in
+    let e₀ : valid t ≡ true = not-false _ (not-true _ (and_parts (not (not (valid t))) _ n₀).0) in
+    let e₁ : short ≡ false = not-true _ (and_parts (not short) _ n₁).0 in
+    let e₂ : version ≡ false = not-true _ (and_parts (not version) _ n₂).0 in
+    let e₃ : kind ≡ false = not-true _ (and_parts (not kind) _ n₃).0 in
+    let e₄ : sized ≡ true = not-false _ (not-true _ (and_parts (not (not sized)) _ n₄).0) in
+    let e₅ : value ≡ true = not-false _ (not-true _ (and_parts (not (not value)) _ n₅).0) in
+    let at = some_place (lookup (frame_imsi f) t) (not-true _ (and_parts (not (is_none (lookup (frame_imsi f) t))) _ n₆).0) in
     let same = eqb (change_of (record_with (frame_imsi f) t)) (frame_seen f) in
-    let e₇ : same ≡ true = not-false _ (not-true _ (and-true-left (not (not same)) _ n₇)) in
+    let e₇ : same ≡ true = not-false _ (not-true _ (and_parts (not (not same)) _ n₇).0) in
     let e₈ : eqb (change_of (record_of t at.0)) (frame_seen f) ≡ true = subst (λ (o : Option ℕ). eqb (change_of (record_at_place o t)) (frame_seen f) ≡ true) at.1 e₇ in
     record {
       right = e₀;

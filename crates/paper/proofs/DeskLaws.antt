@@ -9,18 +9,18 @@ use lib.Dec.{leb, eqb}
 use lib.ListN.{length, take, length-append}
 use lib.Seq.{length-take-le, take_at}
 use borrow.Author.Tests.{le-ltb, leb-true, eqb-true}
+use Rattle.std.proofs.lemmas.Bool.{and_parts}
 use Rattle.wire.specs.Number.{num_at}
-use Rattle.wire.proofs.ListLaws.{and-true-left, and-true-right}
 use Rattle.wire.proofs.NumberLaws.{num_at-take, num_at-append-left}
 use Rattle.paper.specs.Desk.{desk_head, most_frame, size_right, frame_right, rest_size, frame_at}
 
 pub size-least : (n : ℕ) → size_right n ≡ true → desk_head ≤ n
 unfolding size_right
-size-least n e = leb-true desk_head n (and-true-left (leb desk_head n) _ e)
+size-least n e = leb-true desk_head n (and_parts (leb desk_head n) _ e).0
 
 pub size-most : (n : ℕ) → size_right n ≡ true → n ≤ most_frame
 unfolding size_right
-size-most n e = leb-true n most_frame (and-true-right (leb desk_head n) _ e)
+size-most n e = leb-true n most_frame (and_parts (leb desk_head n) _ e).1
 
 -- what a right frame's length field says: its length, six at least
 pub record Right (f : List ℕ) : Type 0 where
@@ -31,8 +31,8 @@ pub record Right (f : List ℕ) : Type 0 where
 pub frame_parts : (f : List ℕ) → frame_right f ≡ true → Right f
 unfolding frame_right
 frame_parts f e =
-    let size = and-true-left (size_right (num_at 4 f 0)) _ e in
-    let whole = eqb-true (length f) (num_at 4 f 0) (and-true-left (eqb (length f) (num_at 4 f 0)) _ (and-true-right (size_right (num_at 4 f 0)) _ e)) in
+    let size = (and_parts (size_right (num_at 4 f 0)) _ e).0 in
+    let whole = eqb-true (length f) (num_at 4 f 0) (and_parts (eqb (length f) (num_at 4 f 0)) _ (and_parts (size_right (num_at 4 f 0)) _ e).1).0 in
     let least = size-least (num_at 4 f 0) size in
     record { size = size; whole = whole; long = omega arith }
 

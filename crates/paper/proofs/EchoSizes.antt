@@ -13,8 +13,7 @@ use lib.Dec.{eqb}
 use borrow.Author.Tests.{eqb-true, eqb-false, eq-eqb, ne_eqb}
 use Rattle.dictionary.specs.declared.Kind.{Kind}
 use Rattle.dictionary.specs.declared.Kind.TheVariants.{Any, Group, Closed, Unknown}
-use Rattle.dictionary.specs.Rows.{key_of, keys_of, kinds_of, keys, kinds, rows, kind_beside, kind_in, kind_of}
-use Rattle.dictionary.specs.Kinds.{kind_numbered}
+use Rattle.dictionary.specs.Rows.{key_of, rows, kind_with, kind_in, kind_of}
 use Rattle.paper.specs.Avp.{Avp, padded, size_of, written}
 use Rattle.paper.specs.Reader.{Placed, Avps, whole, broken, more, sizes, body_at, view}
 use Rattle.paper.specs.Find.{has_key, first_of, member, first_second}
@@ -91,11 +90,11 @@ unfolding distinct member key_of
 echo_distinct = refl
 
 kind_session : kind_of 0 263 ≡ Any
-unfolding kind_of kind_in kind_beside key_of keys kinds keys_of kinds_of rows kind_numbered
+unfolding kind_of kind_in kind_with key_of rows
 kind_session = refl
 
 kind_proxy : kind_of 0 284 ≡ Closed
-unfolding kind_of kind_in kind_beside key_of keys kinds keys_of kinds_of rows kind_numbered
+unfolding kind_of kind_in kind_with key_of rows
 kind_proxy = refl
 
 -- Session-Id is known and no group; Proxy-Info is not entered
@@ -110,9 +109,9 @@ echo-known a e = go (eqb (number_of a) (key_number session_id)) (eqb (number_of 
     shut k q = (λ r. let z : ◌≡◌ {A = ℕ} 0 1 = cc in absurd (omega arith), λ r. let z : ◌≡◌ {A = ℕ} 0 1 = cc in absurd (omega arith))
 
     go : (s p : Bool) → eqb (number_of a) (key_number session_id) ≡ s → eqb (number_of a) (key_number proxy_info) ≡ p → s || (p || false) ≡ true
-        → (kind_beside (number_of a) keys kinds ≢ Group) × (kind_beside (number_of a) keys kinds ≢ Unknown)
-    go true p q r t = plain (kind_beside (number_of a) keys kinds) (ap (λ (n : ℕ). kind_beside n keys kinds) (eqb-true _ _ q) ∙ kind_session)
-    go false true q r t = shut (kind_beside (number_of a) keys kinds) (ap (λ (n : ℕ). kind_beside n keys kinds) (eqb-true _ _ r) ∙ kind_proxy)
+        → (kind_with (number_of a) rows ≢ Group) × (kind_with (number_of a) rows ≢ Unknown)
+    go true p q r t = plain (kind_with (number_of a) rows) (ap (λ (n : ℕ). kind_with n rows) (eqb-true _ _ q) ∙ kind_session)
+    go false true q r t = shut (kind_with (number_of a) rows) (ap (λ (n : ℕ). kind_with n rows) (eqb-true _ _ r) ∙ kind_proxy)
     go false false q r t = absurd (false≢true t)
 
 -- ---- the request has room for what is echoed and what is shown

@@ -8,7 +8,8 @@ use Prim.Native.Nat.{ℕ, zero, suc, ◌+◌, ◌-◌, ◌*◌, ◌≤◌}
 use native.Mathlib.Omega.{arith}
 use lib.ListN.{length, get_or, replicate, length-append, length-replicate, replicate-append-replicate}
 use borrow.Author.Tests.{not-true}
-use Rattle.wire.proofs.ListLaws.{and-true-right, length_part}
+use Rattle.std.proofs.lemmas.Bool.{and_parts}
+use Rattle.wire.proofs.ListLaws.{length_part}
 use Rattle.paper.specs.Layout.{record_size, most_name, entry_size, most_entries, cancel_size}
 use Rattle.paper.specs.Table.{record_right, Slot, name_of}
 use Rattle.paper.specs.Procedures.{Entry, same_name, registered, listed, cancel_list, updated, entry_bytes, cancel_bytes}
@@ -52,7 +53,7 @@ module _ (sent r : List ℕ) (long : length r ≡ record_size) (right : record_r
       let n = length-name slot r node long right in
       let k = name-size slot r node right in
       each_if (Listable sent) (registered slot r && not (same_name (name_of slot r) sent)) (record { node = slot.number; type = type; name = name_of slot r })
-      (λ e. record { size = omega arith; other = not-true (same_name (name_of slot r) sent) (and-true-right (registered slot r) _ e) })
+      (λ e. record { size = omega arith; other = not-true (same_name (name_of slot r) sent) (and_parts (registered slot r) _ e).1 })
 
   pub cancel_list-each : (slot : Slot) (type : Option ℕ) → Node slot → EachOf (Listable sent) (cancel_list slot type sent r)
   unfolding cancel_list

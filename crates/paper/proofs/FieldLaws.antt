@@ -11,9 +11,10 @@ use lib.Dec.{leb, ltb, eqb}
 use lib.ListN.{length, take, drop, get_or, replicate, length-append, length-drop, length-replicate}
 use lib.Seq.{take_at, take-length, drop_at, drop-drop, get_or-take, length-take-le}
 use borrow.Author.Tests.{le-leb, lt-ltb, leb-true, ltb-true}
+use Rattle.std.proofs.lemmas.Bool.{and_from, and_parts}
 use Rattle.wire.specs.Put.{part, put}
 use Rattle.wire.specs.Stretch.{name_bytes, digits, zeros}
-use Rattle.wire.proofs.ListLaws.{and-true-left, and-true-right, and-true_both, get_d_part, part-part}
+use Rattle.wire.proofs.ListLaws.{get_d_part, part-part}
 use Rattle.wire.proofs.PutLaws.{length-put, part-put, put-before, put-after}
 use Rattle.wire.proofs.StretchLaws.{all_in-take, all_in-replicate}
 use Rattle.paper.specs.Layout.{record_size, imsi_size, change_at, subscription_at, restriction_at, plmn_count_at, plmns_at, plmn_size, most_plmns, purged_at, mme_at, sgsn_at, most_name, ambr_at, imei_at, least_imei, most_digits}
@@ -26,8 +27,8 @@ use Rattle.paper.proofs.RecordLaws.{range, apart, apart_from, all_apart, differ_
 all_hold-at : (xs : List Rule) (r : List ℕ) (d : Rule) (k : ℕ) → all_hold xs r ≡ true → k < length xs → (get_or xs k d).holds r ≡ true
 unfolding all_hold
 all_hold-at [] r d k e h = absurd (omega arith)
-all_hold-at (x ∷ xs) r d zero e h = and-true-left (x.holds r) (all_hold xs r) e
-all_hold-at (x ∷ xs) r d (suc k) e h = all_hold-at xs r d k (and-true-right (x.holds r) (all_hold xs r) e) (omega arith)
+all_hold-at (x ∷ xs) r d zero e h = (and_parts (x.holds r) (all_hold xs r) e).0
+all_hold-at (x ∷ xs) r d (suc k) e h = all_hold-at xs r d k (and_parts (x.holds r) (all_hold xs r) e).1 (omega arith)
 
 pub record Right (r : List ℕ) : Type 0 where
   pub imsi : imsi_right r ≡ true
@@ -83,11 +84,11 @@ node-name slot r the_sgsn e = (right_parts r e).sgsn_name
 -- the counts of a right record fit their fields
 pub name-size : (slot : Slot) (r : List ℕ) → Node slot → record_right r ≡ true → get_or r slot.at 0 ≤ most_name
 unfolding name_right counted
-name-size slot r node e = leb-true (get_or r slot.at 0) most_name (and-true-left (leb (get_or r slot.at 0) most_name) _ (node-name slot r node e))
+name-size slot r node e = leb-true (get_or r slot.at 0) most_name (and_parts (leb (get_or r slot.at 0) most_name) _ (node-name slot r node e)).0
 
 pub purged-size : (r : List ℕ) → record_right r ≡ true → get_or r purged_at 0 < 4
 unfolding purged_right two_bits
-purged-size r e = ltb-true (get_or r purged_at 0) 4 (and-true-left (ltb (get_or r purged_at 0) 4) _ (right_parts r e).purged)
+purged-size r e = ltb-true (get_or r purged_at 0) 4 (and_parts (ltb (get_or r purged_at 0) 4) _ (right_parts r e).purged).0
 
 pub plmn_count_size : (r : List ℕ) → record_right r ≡ true → get_or r plmn_count_at 0 ≤ most_plmns
 unfolding plmn_count_right
@@ -196,9 +197,9 @@ module _ (v r : List ℕ) (sized : length v ≡ 25) (long : length r ≡ record_
   plmns_right_lem good right =
       let m = counts-long in
       let c = get_or v 0 0 in
-      let few : leb c most_plmns ≡ true = and-true-left (leb c most_plmns) _ good in
+      let few : leb c most_plmns ≡ true = (and_parts (leb c most_plmns) _ good).0 in
       let small : c ≤ most_plmns = leb-true c most_plmns few in
-      let z : zeros (drop (1 + plmn_size * c) v) ≡ true = and-true-right (leb c most_plmns) _ good in
+      let z : zeros (drop (1 + plmn_size * c) v) ≡ true = (and_parts (leb c most_plmns) _ good).1 in
       let differ =
       differ_then (range plmn_count_at 1) (range plmns_at 24 ∷ []) r counts stored (differ_put plmn_count_at 1 (take 1 v) r count_size (omega arith)) (differ_put plmns_at 24 (drop 1 v) counts plmns_size (omega arith)) in
       right_again (range plmn_count_at 1 ∷ range plmns_at 24 ∷ []) r stored differ right (rw (count_stored, few, unused_stored (plmn_size * c) (omega arith), z))
@@ -218,23 +219,23 @@ allowed b m s = ltb b 4 && ((not (eqb (b / 2 ^ 0 % 2) 1) || m) && (not (eqb (b /
 
 clear-mme : (m s : Bool) (b : ℕ) → b < 4 → allowed b m s ≡ true → allowed (without_bit 0 b) m s ≡ true
 unfolding allowed without_bit
-clear-mme m s = below_four (λ b. allowed b m s ≡ true → allowed (without_bit 0 b) m s ≡ true) (λ e. e) (λ e. refl) (λ e. e) (λ e. and-true-right m s e)
+clear-mme m s = below_four (λ b. allowed b m s ≡ true → allowed (without_bit 0 b) m s ≡ true) (λ e. e) (λ e. refl) (λ e. e) (λ e. (and_parts m s e).1)
 
 clear-sgsn : (m s : Bool) (b : ℕ) → b < 4 → allowed b m s ≡ true → allowed (without_bit 1 b) m s ≡ true
 unfolding allowed without_bit
 clear-sgsn m s =
     below_four (λ b. allowed b m s ≡ true → allowed (without_bit 1 b) m s ≡ true) (λ e. e) (λ e. e) (λ e. refl)
-    (λ e. and-true_both m true (and-true-left m s e) refl)
+    (λ e. and_from m true (and_parts m s e).0 refl)
 
 set-mme : (m s : Bool) (b : ℕ) → b < 4 → allowed b m s ≡ true → allowed (with_bit 0 b) true s ≡ true
 unfolding allowed with_bit
-set-mme m s = below_four (λ b. allowed b m s ≡ true → allowed (with_bit 0 b) true s ≡ true) (λ e. refl) (λ e. refl) (λ e. e) (λ e. and-true-right m s e)
+set-mme m s = below_four (λ b. allowed b m s ≡ true → allowed (with_bit 0 b) true s ≡ true) (λ e. refl) (λ e. refl) (λ e. e) (λ e. (and_parts m s e).1)
 
 set-sgsn : (m s : Bool) (b : ℕ) → b < 4 → allowed b m s ≡ true → allowed (with_bit 1 b) m true ≡ true
 unfolding allowed with_bit
 set-sgsn m s =
     below_four (λ b. allowed b m s ≡ true → allowed (with_bit 1 b) m true ≡ true) (λ e. refl) (λ e. e) (λ e. refl)
-    (λ e. and-true_both m true (and-true-left m s e) refl)
+    (λ e. and_from m true (and_parts m s e).0 refl)
 
 pub bit_cleared : (slot : Slot) → Node slot → (b : ℕ) → b < 4 → eqb (without_bit slot.purge_bit b / 2 ^ slot.purge_bit % 2) 1 ≡ false
 unfolding without_bit

@@ -9,7 +9,7 @@ use native.Mathlib.Omega.{arith}
 use lib.ListN.{length}
 use lib.Dec.{eqb}
 use borrow.Author.Tests.{eqb-true, eq-eqb}
-use Rattle.wire.proofs.ListLaws.{and-true-left, and-true-right}
+use Rattle.std.proofs.lemmas.Bool.{and_parts}
 use Rattle.paper.specs.Avp.{padded, length_of, framed, after, avp_of}
 use Rattle.paper.specs.Reader.{Placed, Avps, whole, broken, more, placed, stump, avps, body_at}
 use Rattle.paper.specs.Find.{has_key, first_of}
@@ -122,8 +122,8 @@ module _ (vendor code : ℕ) where
             let k = first_of-key vendor code l x q in
             record {
               there = first_of-each (Among l) (BreaksAt l) vendor code l (among_each l) x q;
-              of_vendor = eqb-true _ _ (and-true-left (eqb x.avp.vendor vendor) (eqb x.avp.code code) k);
-              of_code = eqb-true _ _ (and-true-right (eqb x.avp.vendor vendor) (eqb x.avp.code code) k);
+              of_vendor = eqb-true _ _ (and_parts (eqb x.avp.vendor vendor) (eqb x.avp.code code) k).0;
+              of_code = eqb-true _ _ (and_parts (eqb x.avp.vendor vendor) (eqb x.avp.code code) k).1;
             };
         first = λ y k. first-there at to e k.there (rw (eq-eqb _ _ k.of_vendor, eq-eqb _ _ k.of_code));
       }

@@ -9,8 +9,8 @@ use native.Mathlib.Omega.{arith}
 use lib.ListN.{length, drop}
 use lib.Dec.{ltb, eqb}
 use borrow.Author.Tests.{eqb-true, eqb-false, eq-eqb, ne_eqb, ltb-true}
+use Rattle.std.proofs.lemmas.Bool.{and_parts}
 use Rattle.wire.specs.Number.{Bytes}
-use Rattle.wire.proofs.ListLaws.{and-true-left, and-true-right}
 use Rattle.wire.proofs.NumberLaws.{num_at-lt, bytes-part}
 use Rattle.dictionary.specs.Rows.{key_of}
 use Rattle.paper.specs.Avp.{avp_of}
@@ -54,8 +54,8 @@ member-has : (ks : List Key) → small ks ≡ true → (k : Key) → k.code < co
 unfolding member has small
 member-has [] s k h = refl
 member-has (x ∷ xs) s k h =
-    let n = ltb-true x.code codes (and-true-left (ltb x.code codes) (small xs) s) in
-    rw (key_test k.vendor k.code x.vendor x.code h n, member-has xs (and-true-right (ltb x.code codes) (small xs) s) k h)
+    let n = ltb-true x.code codes (and_parts (ltb x.code codes) (small xs) s).0 in
+    rw (key_test k.vendor k.code x.vendor x.code h n, member-has xs (and_parts (ltb x.code codes) (small xs) s).1 k h)
 
 -- ---- the AVPs that a command uses
 

@@ -23,6 +23,7 @@ pub mod FirstLaws
 pub mod FirstSeconds
 pub mod FirstVisit
 pub mod FlagBits
+pub mod GivenLaws
 pub mod KindLaws
 pub mod ListedLaws
 pub mod NameLaws

@@ -12,9 +12,8 @@ use borrow.Author.Tests.{leb-true}
 use Rattle.wire.specs.Number.{be, num_at}
 use Rattle.wire.specs.Put.{put}
 use Rattle.wire.specs.Stretch.{same, all_in}
-use Rattle.dictionary.specs.Kinds.{kind_numbered}
 use Rattle.dictionary.specs.declared.Kind.TheVariants.{Four}
-use Rattle.dictionary.specs.Rows.{key_of, keys_of, kinds_of, kind_beside, kind_in, rows, keys, kinds, kind_of}
+use Rattle.dictionary.specs.Rows.{key_of, kind_with, kind_in, rows, kind_of}
 use Rattle.paper.specs.Avp.{head_size, padded, flags_of, length_of, vendor_of, framed, body_of, after, avp_of, bare_of, vendor_field, as_received, flags_for, written}
 use Rattle.paper.specs.Reader.{placed, stump, read_up_to, avps, unbroken, beside, nothing, faulty, unknown, single, sized, group, ◌then◌, each, by_kind, view_avp, view}
 use Rattle.paper.specs.Find.{has_key, first_of, member, first_second}
@@ -33,7 +32,7 @@ use Rattle.paper.proofs.Newer.{newer_same}
 
 -- what a request comes to, in the open
 comes_to : Lent → Outcome
-unfolding num_at put same all_in kind_numbered key_of keys_of kinds_of kind_beside kind_in rows keys kinds kind_of head_size padded vendor_of framed body_of after avp_of bare_of vendor_field as_received flags_for written placed stump read_up_to avps unbroken beside ◌then◌ nothing faulty unknown single sized group each by_kind view_avp view has_key first_of member first_second filled with_bit without_bit store_node store_purged store_imei counted imsi_right two_bits plmn_count_right plmns_right name_right purged_right imei_right rules all_hold record_right record_of count_of imsi_number all_below ascends header_right valid seek lookup name_of store commands command_in command_of avps_of view_of value_of number_of has used_in required_in terminal version_test length_test error_test of_fault fault_test application_test is_command command_test of_found unsupported_test earlier repeated repeated_test blank missing first_absent absent_test value_test imsi_digits is_name three_bytes imei_digits values_test refusal same_name imsi_field unsubscribed rat_bits rat_refused has_plmn plmn_refused stranger experimental with_imei listed other_type cancelled cancel_list updated update_location purges purge_ue notify carried_out entry_bytes cancel_bytes result_item echoed each_of failed_item restriction_item subscription_of reply_avps is_protocol_error reply_flags message answer silent answered refusal_reply experimental_reply success_items success_reply by_verdict by_record by_refusal outcome asking unsupported_answer unsupported_outcome with_avps
+unfolding num_at put same all_in key_of kind_with kind_in rows kind_of head_size padded vendor_of framed body_of after avp_of bare_of vendor_field as_received flags_for written placed stump read_up_to avps unbroken beside ◌then◌ nothing faulty unknown single sized group each by_kind view_avp view has_key first_of member first_second filled with_bit without_bit store_node store_purged store_imei counted imsi_right two_bits plmn_count_right plmns_right name_right purged_right imei_right rules all_hold record_right record_of count_of imsi_number all_below ascends header_right valid seek lookup name_of store commands command_in command_of avps_of view_of value_of number_of has used_in required_in terminal version_test length_test error_test of_fault fault_test application_test is_command command_test of_found unsupported_test earlier repeated repeated_test blank missing first_absent absent_test value_test imsi_digits is_name three_bytes imei_digits values_test refusal same_name imsi_field unsubscribed rat_bits rat_refused has_plmn plmn_refused stranger experimental with_imei listed other_type cancelled cancel_list updated update_location purges purge_ue notify carried_out entry_bytes cancel_bytes result_item echoed each_of failed_item restriction_item subscription_of reply_avps is_protocol_error reply_flags message answer silent answered refusal_reply experimental_reply success_items success_reply by_verdict by_record by_refusal outcome asking unsupported_answer unsupported_outcome with_avps
 comes_to l = outcome l
 
 -- ---- the table: IMSI 001010, EPS subscription, MME "a"

@@ -7,9 +7,8 @@ use mathlib.Core.List.{List, [], ◌∷◌, map}
 use Prim.Native.Nat.{ℕ}
 use lib.Dec.{eqb}
 use borrow.Author.Tests.{eqb-true, not-true}
-use Rattle.wire.proofs.ListLaws.{and-true-left, and-true-right}
-use Rattle.dictionary.specs.Rows.{key_of, kind_of, keys_of, kinds_of, kind_beside, kind_in, keys, kinds, rows}
-use Rattle.dictionary.specs.Kinds.{kind_numbered}
+use Rattle.std.proofs.lemmas.Bool.{and_parts}
+use Rattle.dictionary.specs.Rows.{key_of, kind_of, kind_with, kind_in, rows}
 use Rattle.dictionary.specs.declared.Kind.{Kind}
 use Rattle.dictionary.specs.declared.Kind.TheVariants.{Group, Unknown}
 use Rattle.paper.specs.Find.{member}
@@ -53,8 +52,8 @@ is_seen c k = uses c top_level k.vendor k.code && leaf_kind (kind_of k.vendor k.
 pub sees_named : (c : ℕ) (k : Key) → is_seen c k ≡ true → Sees c k (named_use k.vendor k.code)
 unfolding is_seen seen_by
 sees_named c k e =
-    let u = and-true-left (uses c top_level k.vendor k.code) _ e in
-    record { looks = u; kind = and-true-right (uses c top_level k.vendor k.code) _ e; all = λ x. rw u }
+    let u = (and_parts (uses c top_level k.vendor k.code) _ e).0 in
+    record { looks = u; kind = (and_parts (uses c top_level k.vendor k.code) _ e).1; all = λ x. rw u }
 
 -- all of it, where it is no flag word
 unfoldable pub is_whole : ℕ → Key → Bool
@@ -63,8 +62,8 @@ is_whole c k = is_seen c k && not (is_flag_word k)
 pub sees_whole : (c : ℕ) (k : Key) → is_whole c k ≡ true → Whole c k
 unfolding is_whole
 sees_whole c k e =
-    let h = sees_named c k (and-true-left (is_seen c k) _ e) in
-    record { looks = h.looks; kind = h.kind; all = λ x. h.all x ∙ named-whole k x (not-true (is_flag_word k) (and-true-right (is_seen c k) _ e)) }
+    let h = sees_named c k (and_parts (is_seen c k) _ e).0 in
+    record { looks = h.looks; kind = h.kind; all = λ x. h.all x ∙ named-whole k x (not-true (is_flag_word k) (and_parts (is_seen c k) _ e).1) }
 
 -- ---- the facts of the three commands, computed
 
@@ -74,7 +73,7 @@ all_seen c (k ∷ ks) = is_seen c k && all_seen c ks
 
 unfoldable pub all_known : List ℕ → Bool
 all_known [] = true
-all_known (k ∷ ks) = known (kind_beside k keys kinds) && all_known ks
+all_known (k ∷ ks) = known (kind_with k rows) && all_known ks
 
 -- of each of the three
 pub record Facts (c : ℕ) : Type 0 where
@@ -88,7 +87,7 @@ pub record Facts (c : ℕ) : Type 0 where
   pub keys : all_known (map key_number (used_in (command_of c))) ≡ true
 
 pub facts : {c : ℕ} → Recognized c → Facts c
-unfolding all_seen all_known has required_in is_whole is_seen named_bits uses member command_of commands command_in used_in key_of kind_of kind_in kind_beside kind_numbered keys kinds keys_of kinds_of rows
+unfolding all_seen all_known has required_in is_whole is_seen named_bits uses member command_of commands command_in used_in key_of kind_of kind_in kind_with rows
 facts r =
     by-command Facts
     (record { session = refl; user = refl; host = refl; proxy = refl; plmn = refl; terminal = refl; required = refl; keys = refl })
@@ -107,7 +106,7 @@ pub record OwnFacts : Type 0 where
   pub terminal_group : kind_of 10415 1401 ≡ Group
 
 pub own_facts : OwnFacts
-unfolding all_known is_whole is_seen named_bits uses member command_of commands command_in used_in key_of kind_of kind_in kind_beside kind_numbered keys kinds keys_of kinds_of rows
+unfolding all_known is_whole is_seen named_bits uses member command_of commands command_in used_in key_of kind_of kind_in kind_with rows
 own_facts =
     record {
       rat = refl;
@@ -125,7 +124,7 @@ own_facts =
 known-not : (k : Kind) → k ≡ Unknown → known k ≡ false
 known-not k e = rw e
 
-not_among : (k x : ℕ) (xs : List ℕ) → known (kind_beside k keys kinds) ≡ false → known (kind_beside x keys kinds) ≡ true → member k xs ≡ false → member k (x ∷ xs) ≡ false
+not_among : (k x : ℕ) (xs : List ℕ) → known (kind_with k rows) ≡ false → known (kind_with x rows) ≡ true → member k xs ≡ false → member k (x ∷ xs) ≡ false
 unfolding member
 not_among k x xs u h e = go (eqb k x) refl
   where
@@ -133,12 +132,12 @@ not_among k x xs u h e = go (eqb k x) refl
     go true q = absurd (false≢true (sym u ∙ rw (eqb-true k x q) h))
     go false q = e
 
-unknown-not_among : (xs : List ℕ) → all_known xs ≡ true → (k : ℕ) → known (kind_beside k keys kinds) ≡ false → member k xs ≡ false
+unknown-not_among : (xs : List ℕ) → all_known xs ≡ true → (k : ℕ) → known (kind_with k rows) ≡ false → member k xs ≡ false
 unfolding all_known member
 unknown-not_among [] h k u = refl
 unknown-not_among (x ∷ xs) h k u =
-    let a = and-true-left (known (kind_beside x keys kinds)) (all_known xs) h in
-    let r = and-true-right (known (kind_beside x keys kinds)) (all_known xs) h in
+    let a = (and_parts (known (kind_with x rows)) (all_known xs) h).0 in
+    let r = (and_parts (known (kind_with x rows)) (all_known xs) h).1 in
     not_among k x xs u a (unknown-not_among xs r k u)
 
 -- an unknown AVP has no key of the set

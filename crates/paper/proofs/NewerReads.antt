@@ -6,7 +6,7 @@ use mathlib.Core.List.{List, [], ◌∷◌, map}
 use Prim.Native.Nat.{ℕ}
 use native.Mathlib.Omega.{arith}
 use lib.Dec.{eqb}
-use Rattle.wire.proofs.ListLaws.{and-true-left, and-true-right}
+use Rattle.std.proofs.lemmas.Bool.{and_parts}
 use Rattle.dictionary.specs.Rows.{key_of, kind_of}
 use Rattle.paper.specs.Reader.{Placed, Avps, whole, Known}
 use Rattle.paper.specs.Find.{body_found, member, first_second}
@@ -73,8 +73,8 @@ module _ {c : ℕ} (r : Recognized c) {l l' : Avps} {k k' : Known} (t : Tree kin
   absent_kept [] h = refl
   absent_kept (key ∷ ks) h =
       let see = named_use key.vendor key.code in
-      let f = found_kept key see (sees_named c key (and-true-left (is_seen c key) _ h)) in
-      rw (seen-there see (find key l) (find key l') f, absent_kept ks (and-true-right (is_seen c key) _ h))
+      let f = found_kept key see (sees_named c key (and_parts (is_seen c key) _ h).0) in
+      rw (seen-there see (find key l) (find key l') f, absent_kept ks (and_parts (is_seen c key) _ h).1)
 
   pub required_kept : first_absent (required_in (command_of c)) l' ≡ first_absent (required_in (command_of c)) l
   required_kept = absent_kept (required_in (command_of c)) (facts r).required

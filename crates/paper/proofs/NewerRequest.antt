@@ -9,7 +9,8 @@ use native.Mathlib.Omega.{arith}
 use lib.Dec.{eqb}
 use lib.ListN.{length, drop, get_or, length-drop}
 use borrow.Author.Tests.{eq-eqb}
-use Rattle.wire.proofs.ListLaws.{and-true_both, get_d_part}
+use Rattle.std.proofs.lemmas.Bool.{and_from}
+use Rattle.wire.proofs.ListLaws.{get_d_part}
 use Rattle.wire.proofs.NumberLaws.{num_at_agree}
 use Rattle.dictionary.specs.Rows.{kind_of}
 use Rattle.dictionary.specs.declared.Kind.{Kind}
@@ -135,7 +136,7 @@ module _ {m n : List ℕ} {a : Option Avp} (p : Passes m) (k : Like m n a) where
       let h = view-fours kind_of _ most_groups message_header (drop message_header n) k.fault in
       let l = length-drop message_header n in
       let b = k.fits.least in
-      rw (and-true_both (eqb (message_length n) (length n)) (eqb (length n % 4) 0) (eq-eqb (message_length n) (length n) k.fits.mended) (eq-eqb (length n % 4) 0 (omega arith)))
+      rw (and_from (eqb (message_length n) (length n)) (eqb (length n % 4) 0) (eq-eqb (message_length n) (length n) k.fits.mended) (eq-eqb (length n % 4) 0 (omega arith)))
 
   error-passed : error_test n ≡ none
   unfolding error_test

@@ -9,7 +9,7 @@ use Prim.Native.Nat.{ℕ, zero, suc}
 use lib.Dec.{eqb}
 use lib.ListN.{length}
 use borrow.Author.Tests.{eqb-true}
-use Rattle.wire.proofs.ListLaws.{and-true-left, and-true-right}
+use Rattle.std.proofs.lemmas.Bool.{and_parts}
 use Rattle.dictionary.specs.Rows.{key_of}
 use Rattle.dictionary.specs.Kinds.{size_right}
 use Rattle.dictionary.specs.declared.Kind.{Kind}
@@ -127,11 +127,11 @@ seen_found see (some p) = some (see p.avp.body)
 module _ (vendor code : ℕ) (a : Avp) (e : has_key vendor code a ≡ true) where
   key-vendor : a.vendor ≡ vendor
   unfolding has_key
-  key-vendor = eqb-true _ _ (and-true-left (eqb a.vendor vendor) _ e)
+  key-vendor = eqb-true _ _ (and_parts (eqb a.vendor vendor) _ e).0
 
   key-code : a.code ≡ code
   unfolding has_key
-  key-code = eqb-true _ _ (and-true-right (eqb a.vendor vendor) _ e)
+  key-code = eqb-true _ _ (and_parts (eqb a.vendor vendor) _ e).1
 
 module _ (kind : ℕ → ℕ → Kind) (seen : ℕ → ℕ → List ℕ → List ℕ) where
   -- an AVP of another kind has another key

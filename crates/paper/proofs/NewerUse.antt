@@ -7,7 +7,7 @@ use mathlib.Core.List.{List, [], ◌∷◌, ◌++◌}
 use Prim.Native.Nat.{ℕ}
 use lib.Dec.{eqb}
 use borrow.Author.Tests.{eqb-true}
-use Rattle.wire.proofs.ListLaws.{and-true-left, and-true-right}
+use Rattle.std.proofs.lemmas.Bool.{and_parts}
 use Rattle.dictionary.specs.Rows.{key_of, kind_of}
 use Rattle.dictionary.specs.declared.Kind.TheVariants.{Group, Unknown}
 use Rattle.paper.specs.Reader.{Avps, Known, end, leaf, node, beside}
@@ -42,7 +42,7 @@ module _ (command : ℕ) where
   module _ (level : Level) (vendor code : ℕ) (h : uses command level vendor code ≡ true) where
     key-used : (v c : ℕ) → keyed vendor code v c ≡ true → uses command level v c ≡ true
     unfolding keyed
-    key-used v c e = rw (eqb-true v vendor (and-true-left (eqb v vendor) _ e), eqb-true c code (and-true-right (eqb v vendor) _ e)) h
+    key-used v c e = rw (eqb-true v vendor (and_parts (eqb v vendor) _ e).0, eqb-true c code (and_parts (eqb v vendor) _ e).1) h
 
     pub first-used : (k : Known) → first_leaf vendor code (used_part level k) ≡ first_leaf vendor code k
     unfolding used_part first_leaf
@@ -66,7 +66,7 @@ module _ (command : ℕ) where
 
     below_keyed : (v c : ℕ) → keyed vendor code v c ≡ true → below level v c ≡ below level vendor code
     unfolding keyed
-    below_keyed v c e = rw (eqb-true v vendor (and-true-left (eqb v vendor) _ e), eqb-true c code (and-true-right (eqb v vendor) _ e))
+    below_keyed v c e = rw (eqb-true v vendor (and_parts (eqb v vendor) _ e).0, eqb-true c code (and_parts (eqb v vendor) _ e).1)
 
     pub kids_used : (k : Known) → first_kids vendor code (used_part level k) ≡ used_part (below level vendor code) (first_kids vendor code k)
     unfolding used_part first_kids

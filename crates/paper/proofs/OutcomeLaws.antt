@@ -9,7 +9,7 @@ use native.Mathlib.Omega.{arith}
 use lib.Dec.{ltb, eqb}
 use lib.ListN.{length}
 use borrow.Author.Tests.{ltb-false, not-false, eqb-true, eqb-false}
-use Rattle.wire.proofs.ListLaws.{and-true-left, and-true-right}
+use Rattle.std.proofs.lemmas.Bool.{and_parts}
 use Rattle.wire.proofs.NumberLaws.{num_at-part}
 use Rattle.paper.specs.Layout.{change_at, subscription_at, restriction_at, plmn_count_at, plmns_at, ambr_at, least_answer, longest_answer, cancel_size, least_request, most_request}
 use Rattle.paper.specs.Table.{valid, lookup, record_of, count_of}
@@ -38,8 +38,8 @@ passed l rooms names table size =
     record {
       answer_room = ltb-false (length l.answer) least_answer (or-false-left _ _ rooms);
       cancel_room = ltb-false (length l.cancel) cancel_size (or-false-right (ltb (length l.answer) least_answer) _ rooms);
-      host_name = and-true-left (is_name l.host) (is_name l.realm) n;
-      realm_name = and-true-right (is_name l.host) (is_name l.realm) n;
+      host_name = (and_parts (is_name l.host) (is_name l.realm) n).0;
+      realm_name = (and_parts (is_name l.host) (is_name l.realm) n).1;
       table_valid = not-false (valid l.table) table;
       least = ltb-false (length l.request) least_request (or-false-left _ _ size);
       most = ltb-false most_request (length l.request) (or-false-right (ltb (length l.request) least_request) _ size);

@@ -9,9 +9,9 @@ use native.Mathlib.Omega.{arith}
 use lib.Dec.{leb, eqb}
 use lib.ListN.{length, get_or}
 use borrow.Author.Tests.{leb-true, ltb-true}
+use Rattle.std.proofs.lemmas.Bool.{and_from, and_parts}
 use Rattle.wire.specs.Put.{part}
 use Rattle.wire.specs.Stretch.{name_bytes, digits}
-use Rattle.wire.proofs.ListLaws.{and-true-left, and-true-right, and-true_both}
 use Rattle.wire.proofs.PutLaws.{put-after}
 use Rattle.paper.specs.Layout.{record_size, imsi_at, imsi_size, change_at, purged_at, mme_at, sgsn_at, most_name, imei_at, least_imei, most_digits, most_entries, cancel_size}
 use Rattle.paper.specs.Table.{record_right, record_at, record_of, count_of, imsi_of, valid, Slot, mme, sgsn, lookup, store}
@@ -35,20 +35,20 @@ pub record Named (x : List ℕ) : Type 0 where
 pub name_parts : (x : List ℕ) → is_name x ≡ true → Named x
 unfolding is_name
 name_parts x e =
-    let sizes = and-true-left (leb 1 (length x) && leb (length x) most_name) (name_bytes x) e in
+    let sizes = (and_parts (leb 1 (length x) && leb (length x) most_name) (name_bytes x) e).0 in
     record {
-      some_byte = leb-true 1 (length x) (and-true-left (leb 1 (length x)) (leb (length x) most_name) sizes);
-      few = leb-true (length x) most_name (and-true-right (leb 1 (length x)) (leb (length x) most_name) sizes);
-      bytes = and-true-right (leb 1 (length x) && leb (length x) most_name) (name_bytes x) e;
+      some_byte = leb-true 1 (length x) (and_parts (leb 1 (length x)) (leb (length x) most_name) sizes).0;
+      few = leb-true (length x) most_name (and_parts (leb 1 (length x)) (leb (length x) most_name) sizes).1;
+      bytes = (and_parts (leb 1 (length x) && leb (length x) most_name) (name_bytes x) e).1;
     }
 
 pub imei-sizes : (x : List ℕ) → imei_digits x ≡ true → eqb (length x) least_imei || eqb (length x) most_digits ≡ true
 unfolding imei_digits
-imei-sizes x e = and-true-left (eqb (length x) least_imei || eqb (length x) most_digits) (digits x) e
+imei-sizes x e = (and_parts (eqb (length x) least_imei || eqb (length x) most_digits) (digits x) e).0
 
 pub imei-bytes : (x : List ℕ) → imei_digits x ≡ true → digits x ≡ true
 unfolding imei_digits
-imei-bytes x e = and-true-right (eqb (length x) least_imei || eqb (length x) most_digits) (digits x) e
+imei-bytes x e = (and_parts (eqb (length x) least_imei || eqb (length x) most_digits) (digits x) e).1
 
 -- ---- a table with one record changed
 
@@ -74,11 +74,11 @@ Within c = (x : Range) → apart_from request_ranges x ≡ true → apart_from (
 
 first-within : (c : Range) (cs : List Range) (x : Range) → apart_from (c ∷ cs) x ≡ true → apart_from (c ∷ []) x ≡ true
 unfolding apart_from
-first-within c cs x a = and-true_both (apart c x) true (and-true-left (apart c x) (apart_from cs x) a) refl
+first-within c cs x a = and_from (apart c x) true (and_parts (apart c x) (apart_from cs x) a).0 refl
 
 rest-within : (c : Range) (cs : List Range) (x : Range) → apart_from (c ∷ cs) x ≡ true → apart_from cs x ≡ true
 unfolding apart_from
-rest-within c cs x a = and-true-right (apart c x) (apart_from cs x) a
+rest-within c cs x a = (and_parts (apart c x) (apart_from cs x) a).1
 
 purged-within : Within (range purged_at 1)
 unfolding request_ranges
@@ -210,7 +210,7 @@ pub record Accepted (m : List ℕ) : Type 0 where
 
 pub purges-registered : (slot : Slot) (sent : List ℕ) (there : Bool) (flags : ℕ) (r : List ℕ) → purges slot sent there flags r ≡ true → registered slot r ≡ true
 unfolding purges
-purges-registered slot sent there flags r e = and-true-left (registered slot r) _ (and-true-left (is_sender slot sent r) _ e)
+purges-registered slot sent there flags r e = (and_parts (registered slot r) _ (and_parts (is_sender slot sent r) _ e).0).0
 
 -- a command is one of three
 pub each-command : (P : Done → Type 0) (a b : Bool) (d₁ d₂ d₃ : Done) → P d₁ → P d₂ → P d₃ → P (cond a d₁ (cond b d₂ d₃))

@@ -10,9 +10,9 @@ use native.Mathlib.Omega.{arith}
 use lib.Dec.{leb, ltb, eqb}
 use lib.ListN.{length, drop, get_or}
 use borrow.Author.Tests.{le-leb, ltb-true, ltb-false}
+use Rattle.std.proofs.lemmas.Bool.{and_from}
 use Rattle.wire.specs.Number.{num_at}
 use Rattle.wire.specs.Stretch.{all_in}
-use Rattle.wire.proofs.ListLaws.{and-true_both}
 use Rattle.wire.proofs.StretchLaws.{all_in-append}
 use Rattle.paper.specs.declared.Line.{Line}
 use Rattle.paper.specs.Answer as Answer
@@ -110,7 +110,7 @@ more-digits n d h s =
     let m = s.makes in
     let whole = makes-more 0 d (48 + n % 10) in
     record {
-      digits = all_in-append 48 57 d ((48 + n % 10) ∷ []) ∙ and-true_both (all_in 48 57 d) _ s.digits last.digits;
+      digits = all_in-append 48 57 d ((48 + n % 10) ∷ []) ∙ and_from (all_in 48 57 d) _ s.digits last.digits;
       makes = omega arith;
       first = inr (begins d _ (first_digit (n / 10) d h s));
     }

@@ -10,8 +10,9 @@ use native.Mathlib.Omega.{arith}
 use lib.Dec.{eqb}
 use lib.ListN.{length, get_or, replicate}
 use lib.Seq.{take_at}
+use Rattle.std.proofs.lemmas.Bool.{and_parts}
 use Rattle.wire.specs.Put.{part, put}
-use Rattle.wire.proofs.ListLaws.{and-true-left, get_d_part, part-part}
+use Rattle.wire.proofs.ListLaws.{get_d_part, part-part}
 use Rattle.wire.proofs.PutLaws.{length-put, part-put, part-other, put-before}
 use Rattle.paper.specs.Layout.{record_size, purged_at, most_name, imei_at, most_digits}
 use Rattle.paper.specs.Table.{record_right, record_of, count_of, valid, counted, imei_right, Slot, mme, sgsn, name_of}
@@ -89,7 +90,7 @@ apart_nodes mme_of_sgsn = inr (omega arith)
 
 pub imei-few : (r : List ℕ) → record_right r ≡ true → get_or r imei_at 0 ≤ most_digits
 unfolding imei_right counted
-imei-few r right = imei_count (get_or r imei_at 0) (and-true-left _ _ (right_parts r right).imei)
+imei-few r right = imei_count (get_or r imei_at 0) (and_parts _ _ (right_parts r right).imei).0
 
 -- ---- one put into a record of a valid table
 

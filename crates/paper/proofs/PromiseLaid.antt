@@ -9,7 +9,7 @@ use native.Mathlib.Omega.{arith}
 use lib.Dec.{leb}
 use lib.ListN.{length}
 use borrow.Author.Tests.{leb-true, leb-false}
-use Rattle.wire.proofs.ListLaws.{and-true-left, and-true-right}
+use Rattle.std.proofs.lemmas.Bool.{and_parts}
 use Rattle.paper.specs.Avp.{head_size, padded, vendor_of, framed, body_of, after, avp_of, bare_of, length_of}
 use Rattle.paper.specs.Reader.{Avps, avps, more, broken, placed, stump}
 use Rattle.paper.specs.Laid.{head_at, length_at, room_at, head_laid, Laid, ends, holds, breaks}
@@ -19,7 +19,7 @@ use Rattle.paper.proofs.AvpsLaws.{avps_induction}
 holds-one : (at : ℕ) (s : List ℕ) → framed s ≡ true → (rest : Avps) → Laid (at + padded (length_of s)) (after s) rest → Laid at s (more (placed at s) rest)
 unfolding framed head_size padded after placed avp_of vendor_of body_of head_laid
 holds-one at s f rest r =
-    holds (leb-true (head_at s) (length_at s) (and-true-left (leb (head_at s) (length_at s)) _ f)) (leb-true (room_at s) (length s) (and-true-right (leb (head_at s) (length_at s)) _ f)) refl r
+    holds (leb-true (head_at s) (length_at s) (and_parts (leb (head_at s) (length_at s)) _ f).0) (leb-true (room_at s) (length s) (and_parts (leb (head_at s) (length_at s)) _ f).1) refl r
 
 -- what stands there is none
 either : (a b n k : ℕ) → leb a b && leb n k ≡ false → (b < a) ⊎ (k < n)

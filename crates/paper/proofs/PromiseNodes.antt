@@ -10,8 +10,8 @@ use native.Mathlib.Omega.{arith}
 use lib.Dec.{ltb}
 use lib.ListN.{length, get_or}
 use borrow.Author.Tests.{ltb-false}
+use Rattle.std.proofs.lemmas.Bool.{and_parts}
 use Rattle.wire.specs.Put.{part}
-use Rattle.wire.proofs.ListLaws.{and-true-left, and-true-right}
 use Rattle.paper.specs.Layout.{record_size, purged_at, mme_at, sgsn_at}
 use Rattle.paper.specs.Reader.{Placed}
 use Rattle.paper.specs.Table.{record_right, record_of, count_of, valid, purged_right, two_bits, bit_at, Slot, name_of}
@@ -52,11 +52,11 @@ cleared_then p q = record { name = q.name ∙ p.name; purged = q.purged ∙ p.pu
 purged-registered : (slot : Slot) (r : List ℕ) → Node slot → record_right r ≡ true → purged_in slot r ≡ true → registered slot r ≡ true
 unfolding purged_right
 purged-registered slot r the_mme right p =
-    let both = and-true-right (two_bits purged_at r) _ (right_parts r right).purged in
-    or_implies (bit_at purged_at 0 r) (ltb 0 (get_or r mme_at 0)) (and-true-left (not (bit_at purged_at 0 r) || ltb 0 (get_or r mme_at 0)) _ both) p
+    let both = (and_parts (two_bits purged_at r) _ (right_parts r right).purged).1 in
+    or_implies (bit_at purged_at 0 r) (ltb 0 (get_or r mme_at 0)) (and_parts (not (bit_at purged_at 0 r) || ltb 0 (get_or r mme_at 0)) _ both).0 p
 purged-registered slot r the_sgsn right p =
-    let both = and-true-right (two_bits purged_at r) _ (right_parts r right).purged in
-    or_implies (bit_at purged_at 1 r) (ltb 0 (get_or r sgsn_at 0)) (and-true-right (not (bit_at purged_at 0 r) || ltb 0 (get_or r mme_at 0)) _ both) p
+    let both = (and_parts (two_bits purged_at r) _ (right_parts r right).purged).1 in
+    or_implies (bit_at purged_at 1 r) (ltb 0 (get_or r sgsn_at 0)) (and_parts (not (bit_at purged_at 0 r) || ltb 0 (get_or r mme_at 0)) _ both).1 p
 
 module _ (slot : Slot) (r : List ℕ) (node : Node slot) (long : length r ≡ record_size) (right : record_right r ≡ true) where
   pub purged-named : purged_in slot r ≡ true → name_of slot r ≢ []

@@ -10,8 +10,8 @@ use native.Mathlib.Omega.{arith}
 use lib.Dec.{eqb}
 use lib.ListN.{length}
 use borrow.Author.Tests.{eqb-true}
+use Rattle.std.proofs.lemmas.Bool.{and_from, and_left, and_right}
 use Rattle.wire.specs.Stretch.{same}
-use Rattle.wire.proofs.ListLaws.{and-true_both, and-false-left, and-false-right}
 use Rattle.wire.proofs.StretchLaws.{same-equal, same_differ}
 use Rattle.paper.specs.Avp.{bit}
 use Rattle.paper.specs.Layout.{record_size}
@@ -43,7 +43,7 @@ module _ (slot : Slot) (sent r : List ℕ) (node : Node slot) (long : length r �
   matching e =
       let n = (name_parts sent good).some_byte in
       let named : name_of slot r ≢ [] = λ q. let z : length sent ≡ 0 = ap length (sym e ∙ q) in omega arith in
-      and-true_both (registered slot r) (same (name_of slot r) sent) (registered-named slot r sent node long right named) (same-equal (name_of slot r) sent e)
+      and_from (registered slot r) (same (name_of slot r) sent) (registered-named slot r sent node long right named) (same-equal (name_of slot r) sent e)
 
   purges_unasked : there ≡ false → name_of slot r ≡ sent → purges slot sent there flags r ≡ true
   unfolding purges
@@ -55,11 +55,11 @@ module _ (slot : Slot) (sent r : List ℕ) (node : Node slot) (long : length r �
 
   not-asked : there ≡ true → bit slot.purge_bit flags ≡ false → purges slot sent there flags r ≡ false
   unfolding purges
-  not-asked t b = and-false-right (is_sender slot sent r) _ (rw (t, b))
+  not-asked t b = and_right (is_sender slot sent r) _ (rw (t, b))
 
   not_matching : name_of slot r ≢ sent → purges slot sent there flags r ≡ false
   unfolding purges same_name
-  not_matching ne = and-false-left _ _ (and-false-right (registered slot r) _ (same_differ (name_of slot r) sent ne))
+  not_matching ne = and_left _ _ (and_right (registered slot r) _ (same_differ (name_of slot r) sent ne))
 
 -- ---- a purge bit set where `b` says so
 

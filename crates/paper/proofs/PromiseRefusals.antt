@@ -8,8 +8,8 @@ use mathlib.Core.List.{List, [], ◌∷◌}
 use Prim.Native.Nat.{ℕ}
 use lib.ListN.{get_or}
 use lib.Dec.{ltb, eqb}
+use Rattle.std.proofs.lemmas.Bool.{and_parts}
 use Rattle.wire.specs.Number.{num_at}
-use Rattle.wire.proofs.ListLaws.{and-true-left, and-true-right}
 use Rattle.paper.specs.Avp.{bit}
 use Rattle.paper.specs.Reader.{or_else}
 use Rattle.paper.specs.Table.{lookup, record_of, name_of}
@@ -112,8 +112,8 @@ all_say P (c ∷ cs) = P c.says && all_say P cs
 first_says : (P : Said → Bool) {l : Lent} {cs : List Case} {x : Said} → First l cs x → all_say P cs ≡ true → P x ≡ true
 unfolding all_say
 first_says P no_case_holds e = e
-first_says P (first {c} {cs} h) e = and-true-left (P c.says) (all_say P cs) e
-first_says P (later {c} {cs} h r) e = first_says P r (and-true-right (P c.says) (all_say P cs) e)
+first_says P (first {c} {cs} h) e = (and_parts (P c.says) (all_say P cs) e).0
+first_says P (later {c} {cs} h r) e = first_says P r (and_parts (P c.says) (all_say P cs) e).1
 
 pub outcome-says : (P : Said → Bool) → all_say P refusals ≡ true → (l : Lent) → P (said (outcome l)) ≡ true
 outcome-says P e l = first_says P ((first_that_applies l (said (outcome l))).0 refl) e

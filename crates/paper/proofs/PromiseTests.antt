@@ -9,8 +9,8 @@ use native.Mathlib.Omega.{arith}
 use lib.ListN.{length, get_or}
 use lib.Dec.{leb, ltb, eqb}
 use borrow.Author.Tests.{eqb-true, ne_eqb, leb-true, ltb-true}
+use Rattle.std.proofs.lemmas.Bool.{and_parts}
 use Rattle.wire.specs.Number.{num_at}
-use Rattle.wire.proofs.ListLaws.{and-true-left, and-true-right}
 use Rattle.dictionary.specs.declared.Kind.{Kind}
 use Rattle.dictionary.specs.declared.Kind.TheVariants.{Four, Eight, Any, Group, Closed, Unknown}
 use Rattle.dictionary.specs.Kinds.{size_right}
@@ -161,8 +161,8 @@ rat_refused_lem rat x = go (leb 1000 rat && ltb (rat - 1000) 6) refl
 
     go : (b : Bool) → leb 1000 rat && ltb (rat - 1000) 6 ≡ b → right rat
     go true e =
-        let lo = leb-true 1000 rat (and-true-left (leb 1000 rat) _ e) in
-        let hi = ltb-true (rat - 1000) 6 (and-true-right (leb 1000 rat) _ e) in
+        let lo = leb-true 1000 rat (and_parts (leb 1000 rat) _ e).0 in
+        let hi = ltb-true (rat - 1000) 6 (and_parts (leb 1000 rat) _ e).1 in
         let whole : 1000 + (rat - 1000) ≡ rat = omega arith in
         subst right whole
         (below_six (λ k. right (1000 + k)) (one_bit (bit_of 0)) (one_bit (bit_of 1)) (one_bit (bit_of 2)) (one_bit (bit_of 3)) (one_bit (bit_of 4)) (sym (not-not (bit_of 4)))

@@ -10,8 +10,8 @@ use native.Mathlib.Omega.{arith}
 use lib.Dec.{leb, ltb, eqb}
 use lib.ListN.{length, take, drop, get_or, replicate}
 use borrow.Author.Tests.{le-leb, eqb-true, eqb-false}
+use Rattle.std.proofs.lemmas.Bool.{and_from}
 use Rattle.wire.specs.Put.{put}
-use Rattle.wire.proofs.ListLaws.{and-true_both}
 use Rattle.wire.proofs.PutLaws.{take_put, drop-put}
 use Rattle.paper.specs.Layout.{imsi_at, imsi_size, most_entries}
 use Rattle.paper.specs.Table.{lookup, record_of, imsi_of}
@@ -44,7 +44,7 @@ apart_fields : (xs : List Field) (at : ℕ) → lies_in xs at ≡ false → apar
 unfolding lies_in apart_from
 apart_fields [] at e = refl
 apart_fields (x ∷ xs) at e =
-    and-true_both _ _ (apart_outside x at (or-false-left _ (lies_in xs at) e)) (apart_fields xs at (or-false-right (leb x.at at && ltb at (x.at + x.size)) (lies_in xs at) e))
+    and_from _ _ (apart_outside x at (or-false-left _ (lies_in xs at) e)) (apart_fields xs at (or-false-right (leb x.at at && ltb at (x.at + x.size)) (lies_in xs at) e))
 
 -- a byte that no request alters
 apart_byte : (at : ℕ) → lies_in request_fields at ≡ false → apart_from request_ranges (range at 1) ≡ true

@@ -11,8 +11,8 @@ use lib.ListN.{length}
 use Rattle.wire.specs.Number.{be, num_at}
 use Rattle.dictionary.specs.declared.Kind.{Kind}
 use Rattle.dictionary.specs.declared.Kind.TheVariants.{Four, Any, Group, Closed}
-use Rattle.dictionary.specs.Kinds.{kind_numbered, size_right}
-use Rattle.dictionary.specs.Rows.{kind_of, kind_in, kind_beside, key_of, keys, kinds, rows, keys_of, kinds_of}
+use Rattle.dictionary.specs.Kinds.{size_right}
+use Rattle.dictionary.specs.Rows.{kind_of, kind_in, kind_with, key_of, rows}
 use Rattle.paper.specs.Avp.{Avp, Writable, as_received}
 use Rattle.paper.specs.Reader.{Placed, Avps, whole, broken, more, most_groups}
 use Rattle.paper.specs.Find.{has_key}
@@ -33,7 +33,7 @@ use Rattle.paper.proofs.ReadBackHeader.{told_by}
 
 -- the frozen list opened, for lookups that antt computes
 unfoldable dictionary : ℕ
-unfolding kind_of kind_in kind_beside key_of keys kinds rows keys_of kinds_of kind_numbered
+unfolding kind_of kind_in kind_with key_of rows
 dictionary = 0
 
 -- the AVPs `h` are written as `x`, and the dictionary knows them; `left` groups may still be entered, one in another

@@ -9,8 +9,8 @@ use native.Mathlib.Omega.{arith}
 use lib.Dec.{ltb, eqb}
 use lib.ListN.{length}
 use borrow.Author.Tests.{eqb-true, ltb-true}
+use Rattle.std.proofs.lemmas.Bool.{and_parts}
 use Rattle.wire.specs.Number.{num_at, Bytes}
-use Rattle.wire.proofs.ListLaws.{and-true-left, and-true-right}
 use Rattle.wire.proofs.NumberLaws.{num_at-lt, bytes-part}
 use Rattle.dictionary.specs.declared.Kind.{Kind}
 use Rattle.dictionary.specs.declared.Kind.TheVariants.{Four, Eight, Any, Group, Closed, Unknown}
@@ -106,10 +106,10 @@ own_key k = (eqb k.vendor 0 || eqb k.vendor 10415) && ltb k.code 65536
 
 pub own_key_lem : (k : Key) → own_key k ≡ true → Own k
 unfolding own_key octet flags_for
-own_key_lem k e = by (eqb k.vendor 0) refl (eqb k.vendor 10415) refl (and-true-left (eqb k.vendor 0 || eqb k.vendor 10415) (ltb k.code 65536) e)
+own_key_lem k e = by (eqb k.vendor 0) refl (eqb k.vendor 10415) refl (and_parts (eqb k.vendor 0 || eqb k.vendor 10415) (ltb k.code 65536) e).0
   where
     small : k.code < 256 ^ 4
-    small = let h = ltb-true k.code 65536 (and-true-right (eqb k.vendor 0 || eqb k.vendor 10415) (ltb k.code 65536) e) in omega arith
+    small = let h = ltb-true k.code 65536 (and_parts (eqb k.vendor 0 || eqb k.vendor 10415) (ltb k.code 65536) e).1 in omega arith
 
     of : (v : ℕ) → v < 256 ^ 4 → flags_for v true ≡ cond (eqb v 10415) 192 64 → k.vendor ≡ v → Own k
     of v h f q = record { vendor = rw q h; code = small; flags = rw q f }
@@ -146,8 +146,8 @@ lacking_writable : (ks : List Key) (l : Avps) → own_keys ks ≡ true → Holds
 unfolding first_lacking own_keys
 lacking_writable [] l e = tt
 lacking_writable (k ∷ ks) l e =
-    cond_cases (Holds Writable) (is_there (find k l)) (λ q. lacking_writable ks l (and-true-right (own_key k) (own_keys ks) e))
-    (λ q. absent_writable k (own_key_lem k (and-true-left (own_key k) (own_keys ks) e)))
+    cond_cases (Holds Writable) (is_there (find k l)) (λ q. lacking_writable ks l (and_parts (own_key k) (own_keys ks) e).1)
+    (λ q. absent_writable k (own_key_lem k (and_parts (own_key k) (own_keys ks) e).0))
 
 -- ---- what Failed-AVP holds
 

@@ -9,8 +9,8 @@ use native.Mathlib.Omega.{arith}
 use lib.Dec.{eqb}
 use lib.ListN.{length, drop}
 use borrow.Author.Tests.{eqb-true}
+use Rattle.std.proofs.lemmas.Bool.{and_parts}
 use Rattle.wire.specs.Number.{num_at}
-use Rattle.wire.proofs.ListLaws.{and-true-left, and-true-right}
 use Rattle.dictionary.specs.declared.Kind.{Kind}
 use Rattle.dictionary.specs.declared.Kind.TheVariants.{Four, Eight, Any, Group, Closed, Unknown}
 use Rattle.dictionary.specs.Rows.{kind_of}
@@ -148,10 +148,10 @@ module _ (m : List ℕ) where
   absent-is : (ks : List Key) (l : Avps) → own_keys ks ≡ true → (x : Refusal) → first_absent ks l ≡ some x → Lacking (first_lacking ks l) x
   unfolding first_absent first_lacking own_keys
   absent-is [] l h x e = let z : ◌≡◌ {A = ℕ} 0 1 = cc in absurd (omega arith)
-  absent-is (k ∷ ks) l h x e = go (is_there (find k l)) (absent-is ks l (and-true-right (own_key k) (own_keys ks) h)) e
+  absent-is (k ∷ ks) l h x e = go (is_there (find k l)) (absent-is ks l (and_parts (own_key k) (own_keys ks) h).1) e
     where
       shown : some (missing k) ≡ some (of_key k (empty_of (kind_of k.vendor k.code)))
-      shown = ap some (missing-is k (own_key_lem k (and-true-left (own_key k) (own_keys ks) h)))
+      shown = ap some (missing-is k (own_key_lem k (and_parts (own_key k) (own_keys ks) h).0))
 
       refusing : Option Avp → Refusal
       refusing a = record { code = 5005; failed = a; echo = true }

@@ -10,9 +10,10 @@ use native.Mathlib.Omega.{arith}
 use lib.Dec.{leb, ltb, eqb}
 use lib.ListN.{length, get_or}
 use borrow.Author.Tests.{leb-true, leb-false, eqb-true}
+use Rattle.std.proofs.lemmas.Bool.{and_from, and_parts}
 use Rattle.wire.specs.Put.{part, put}
 use Rattle.wire.specs.Stretch.{name_bytes, digits, zeros}
-use Rattle.wire.proofs.ListLaws.{and-true-left, and-true-right, and-true_both, get_d_part, part-part}
+use Rattle.wire.proofs.ListLaws.{get_d_part, part-part}
 use Rattle.wire.proofs.PutLaws.{part-other}
 use Rattle.paper.specs.Layout.{imsi_at, imsi_size, subscription_at, plmn_count_at, plmns_at, plmn_size, most_plmns, purged_at, mme_at, sgsn_at, most_name, imei_at, least_imsi, least_imei, most_digits}
 use Rattle.paper.specs.Table.{Rule, counted, unlisted, imsi_right, two_bits, plmn_count_right, plmns_right, name_right, purged_right, imei_right, rules, all_hold, record_right}
@@ -66,20 +67,20 @@ pub differ_put : (at n : ℕ) (xs r : List ℕ) → length xs ≡ n → at + n �
 unfolding apart_from
 differ_put at n xs r e h x a =
     part-other at x.from x.size xs r (rw e h)
-    (rw e (apart_cases (range at n) x (and-true-left (apart (range at n) x) true a)))
+    (rw e (apart_cases (range at n) x (and_parts (apart (range at n) x) true a).0))
 
 -- and with more bytes put into it
 pub differ_then : (c : Range) (cs : List Range) (r r₁ r₂ : List ℕ) → DifferIn (c ∷ []) r r₁ → DifferIn cs r₁ r₂ → DifferIn (c ∷ cs) r r₂
 unfolding apart_from
 differ_then c cs r r₁ r₂ d₁ d₂ x a =
-    d₂ x (and-true-right (apart c x) (apart_from cs x) a)
-    ∙ d₁ x (and-true_both (apart c x) true (and-true-left (apart c x) (apart_from cs x) a) refl)
+    d₂ x (and_parts (apart c x) (apart_from cs x) a).1
+    ∙ d₁ x (and_from (apart c x) true (and_parts (apart c x) (apart_from cs x) a).0 refl)
 
 same_on : (cs xs : List Range) (r r' : List ℕ) → DifferIn cs r r' → all_apart cs xs ≡ true → SameOn xs r r'
 unfolding all_apart
 same_on cs [] r r' d a = tt
 same_on cs (x ∷ xs) r r' d a =
-    (d x (and-true-left (apart_from cs x) (all_apart cs xs) a), same_on cs xs r r' d (and-true-right (apart_from cs x) (all_apart cs xs) a))
+    (d x (and_parts (apart_from cs x) (all_apart cs xs) a).0, same_on cs xs r r' d (and_parts (apart_from cs x) (all_apart cs xs) a).1)
 
 -- ---- what a rule looks at
 
@@ -131,7 +132,7 @@ looks_counted count bytes most at small r r' s =
 -- ---- the counts of 01's counted fields are at most what the field holds
 
 pub imsi_count : (n : ℕ) → leb least_imsi n && leb n most_digits ≡ true → n ≤ most_digits
-imsi_count n e = leb-true n most_digits (and-true-right (leb least_imsi n) (leb n most_digits) e)
+imsi_count n e = leb-true n most_digits (and_parts (leb least_imsi n) (leb n most_digits) e).1
 
 pub name_count : (n : ℕ) → leb n most_name ≡ true → n ≤ most_name
 name_count n e = leb-true n most_name e
@@ -210,20 +211,20 @@ touched_enough cs r r' d [] e h = refl
 touched_enough cs r r' d (w ∷ ws) e h = go (touched_enough cs r r' d ws rest) (all_apart cs w.ranges) refl
   where
     own : w.rule.holds r ≡ true
-    own = and-true-left (w.rule.holds r) (all_hold (map rule_of ws) r) e
+    own = (and_parts (w.rule.holds r) (all_hold (map rule_of ws) r) e).0
 
     rest : all_hold (map rule_of ws) r ≡ true
-    rest = and-true-right (w.rule.holds r) (all_hold (map rule_of ws) r) e
+    rest = (and_parts (w.rule.holds r) (all_hold (map rule_of ws) r) e).1
 
     go : (all_hold (touched cs ws) r' ≡ true → all_hold (map rule_of ws) r' ≡ true) → (b : Bool) → all_apart cs w.ranges ≡ b
         → w.rule.holds r' && all_hold (map rule_of ws) r' ≡ true
     go more true q =
         let k : all_hold (touched cs ws) r' ≡ true = rw q at h in
-        and-true_both (w.rule.holds r') (all_hold (map rule_of ws) r') (w.looks r r' (same_on cs w.ranges r r' d q) ∙ own) (more k)
+        and_from (w.rule.holds r') (all_hold (map rule_of ws) r') (w.looks r r' (same_on cs w.ranges r r' d q) ∙ own) (more k)
     go more false q =
         let k : w.rule.holds r' && all_hold (touched cs ws) r' ≡ true = rw q at h in
-        and-true_both (w.rule.holds r') (all_hold (map rule_of ws) r') (and-true-left (w.rule.holds r') (all_hold (touched cs ws) r') k)
-        (more (and-true-right (w.rule.holds r') (all_hold (touched cs ws) r') k))
+        and_from (w.rule.holds r') (all_hold (map rule_of ws) r') (and_parts (w.rule.holds r') (all_hold (touched cs ws) r') k).0
+        (more (and_parts (w.rule.holds r') (all_hold (touched cs ws) r') k).1)
 
 -- a record that was right is right again where the rules that look into what changed hold
 pub right_again : (cs : List Range) (r r' : List ℕ) → DifferIn cs r r' → record_right r ≡ true → all_hold (touched cs watched) r' ≡ true → record_right r' ≡ true

@@ -13,10 +13,11 @@ use lib.Dec.{leb, ltb, eqb}
 use lib.ListN.{length, take, drop, get_or, take-append-drop}
 use lib.Seq.{length-take-le, drop-drop}
 use borrow.Author.Tests.{le-leb, eq-eqb, ltb-true, ltb-false, leb-true, eqb-true, eqb-false}
+use Rattle.std.proofs.lemmas.Bool.{and_from, and_left, and_parts, and_right}
 use Rattle.wire.specs.Number.{num, num_at}
 use Rattle.wire.specs.Put.{part, put}
 use Rattle.wire.specs.Stretch.{same}
-use Rattle.wire.proofs.ListLaws.{and-true-left, and-true-right, and-true_both, and-false-left, and-false-right, length_part, get_d_part, part-part, part_middle}
+use Rattle.wire.proofs.ListLaws.{length_part, get_d_part, part-part, part_middle}
 use Rattle.wire.proofs.NumberLaws.{num_at_agree, num_at-take, num_at-drop}
 use Rattle.wire.proofs.PutLaws.{length-put, part-before, part-other, put-append-left, put-append-right}
 use Rattle.wire.proofs.StretchLaws.{same_true, same-equal, same_differ}
@@ -28,10 +29,10 @@ use Rattle.paper.specs.Table.{record_right, record_at, record_of, count_of, imsi
 pub all_below-at : (f : ℕ → Bool) (n i : ℕ) → all_below f n ≡ true → i < n → f i ≡ true
 unfolding all_below
 all_below-at f zero i e h = absurd (not-suc-le-zero h)
-all_below-at f (suc n) i e h = go (all_below-at f n i (and-true-left (all_below f n) (f n) e)) (eqb i n) refl
+all_below-at f (suc n) i e h = go (all_below-at f n i (and_parts (all_below f n) (f n) e).0) (eqb i n) refl
   where
     go : (i < n → f i ≡ true) → (b : Bool) → eqb i n ≡ b → f i ≡ true
-    go before true q = ap f (eqb-true i n q) ∙ and-true-right (all_below f n) (f n) e
+    go before true q = ap f (eqb-true i n q) ∙ (and_parts (all_below f n) (f n) e).1
     go before false q = let ne = eqb-false i n q in before (omega arith)
 
 pub all_below-more : (f : ℕ → Bool) (n : ℕ) → all_below f n ≡ true → f n ≡ true → all_below f (n + 1) ≡ true
@@ -41,7 +42,7 @@ all_below-more f n e h = rw (add-one, e, h)
 pub all_below_intro : (f : ℕ → Bool) (n : ℕ) → ((i : ℕ) → i < n → f i ≡ true) → all_below f n ≡ true
 unfolding all_below
 all_below_intro f zero h = refl
-all_below_intro f (suc n) h = and-true_both (all_below f n) (f n) (all_below_intro f n (λ i k. h i (omega arith))) (h n (omega arith))
+all_below_intro f (suc n) h = and_from (all_below f n) (f n) (all_below_intro f n (λ i k. h i (omega arith))) (h n (omega arith))
 
 pub all_below-false : (f : ℕ → Bool) (n i : ℕ) → i < n → f i ≡ false → all_below f n ≡ false
 unfolding all_below
@@ -49,8 +50,8 @@ all_below-false f zero i h e = absurd (not-suc-le-zero h)
 all_below-false f (suc n) i h e = go (λ k. all_below-false f n i k e) (eqb i n) refl
   where
     go : (i < n → all_below f n ≡ false) → (b : Bool) → eqb i n ≡ b → all_below f n && f n ≡ false
-    go before true q = and-false-right (all_below f n) (f n) (subst (λ (k : ℕ). f k ≡ false) (eqb-true i n q) e)
-    go before false q = let ne = eqb-false i n q in and-false-left (all_below f n) (f n) (before (omega arith))
+    go before true q = and_right (all_below f n) (f n) (subst (λ (k : ℕ). f k ≡ false) (eqb-true i n q) e)
+    go before false q = let ne = eqb-false i n q in and_left (all_below f n) (f n) (before (omega arith))
 
 -- ---- what a valid table is
 
@@ -65,17 +66,17 @@ pub record Header (t : List ℕ) : Type 0 where
 pub header_parts : (t : List ℕ) → header_right t ≡ true → Header t
 unfolding header_right
 header_parts t e =
-    let e₁ = and-true-right (leb table_header (length t)) _ e in
-    let e₂ = and-true-right (eqb (num_at 4 t 0) (length t)) _ e₁ in
-    let e₃ = and-true-right (eqb (get_or t 4 0) table_version) _ e₂ in
-    let e₄ = and-true-right (eqb (get_or t 5 0) 0) _ e₃ in
+    let e₁ = (and_parts (leb table_header (length t)) _ e).1 in
+    let e₂ = (and_parts (eqb (num_at 4 t 0) (length t)) _ e₁).1 in
+    let e₃ = (and_parts (eqb (get_or t 4 0) table_version) _ e₂).1 in
+    let e₄ = (and_parts (eqb (get_or t 5 0) 0) _ e₃).1 in
     record {
-      long = leb-true _ _ (and-true-left (leb table_header (length t)) _ e);
-      length_field = eqb-true _ _ (and-true-left (eqb (num_at 4 t 0) (length t)) _ e₁);
-      version = eqb-true _ _ (and-true-left (eqb (get_or t 4 0) table_version) _ e₂);
-      zero_byte = eqb-true _ _ (and-true-left (eqb (get_or t 5 0) 0) _ e₃);
-      few = leb-true _ _ (and-true-left (leb (count_of t) most_records) _ e₄);
-      whole = eqb-true _ _ (and-true-right (leb (count_of t) most_records) _ e₄);
+      long = leb-true _ _ (and_parts (leb table_header (length t)) _ e).0;
+      length_field = eqb-true _ _ (and_parts (eqb (num_at 4 t 0) (length t)) _ e₁).0;
+      version = eqb-true _ _ (and_parts (eqb (get_or t 4 0) table_version) _ e₂).0;
+      zero_byte = eqb-true _ _ (and_parts (eqb (get_or t 5 0) 0) _ e₃).0;
+      few = leb-true _ _ (and_parts (leb (count_of t) most_records) _ e₄).0;
+      whole = eqb-true _ _ (and_parts (leb (count_of t) most_records) _ e₄).1;
     }
 
 pub header-whole : (t : List ℕ) → Header t → header_right t ≡ true
@@ -91,11 +92,11 @@ pub record Valid (t : List ℕ) : Type 0 where
 pub valid_parts : (t : List ℕ) → valid t ≡ true → Valid t
 unfolding valid
 valid_parts t e =
-    let records = and-true-right (header_right t) _ e in
+    let records = (and_parts (header_right t) _ e).1 in
     record {
-      header = header_parts t (and-true-left (header_right t) _ e);
-      right = λ i h. all_below-at (λ j. record_right (record_of t j)) (count_of t) i (and-true-left (all_below (λ j. record_right (record_of t j)) (count_of t)) _ records) h;
-      rising = λ i h. all_below-at (ascends t) (count_of t) i (and-true-right (all_below (λ j. record_right (record_of t j)) (count_of t)) _ records) h;
+      header = header_parts t (and_parts (header_right t) _ e).0;
+      right = λ i h. all_below-at (λ j. record_right (record_of t j)) (count_of t) i (and_parts (all_below (λ j. record_right (record_of t j)) (count_of t)) _ records).0 h;
+      rising = λ i h. all_below-at (ascends t) (count_of t) i (and_parts (all_below (λ j. record_right (record_of t j)) (count_of t)) _ records).1 h;
     }
 
 pub valid-whole : (t : List ℕ) → Valid t → valid t ≡ true

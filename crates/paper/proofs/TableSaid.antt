@@ -11,10 +11,11 @@ use native.Mathlib.Omega.{arith}
 use lib.Dec.{leb, ltb, eqb}
 use lib.ListN.{length, get_or, get_or-eq_default}
 use borrow.Author.Tests.{leb-true, ltb-true, ltb-false, eqb-true, le-leb, lt-ltb, eq-eqb}
+use Rattle.std.proofs.lemmas.Bool.{and_from, and_parts}
 use Rattle.wire.specs.Number.{num, num_at, Bytes}
 use Rattle.wire.specs.Put.{part}
 use Rattle.wire.specs.Stretch.{all_in, zeros}
-use Rattle.wire.proofs.ListLaws.{and-true-left, and-true-right, and-true_both, length_part, get_d_part}
+use Rattle.wire.proofs.ListLaws.{length_part, get_d_part}
 use Rattle.wire.proofs.StretchLaws.{all_in-at, all_in_intro}
 use Rattle.paper.specs.Table.{counted, imsi_right, two_bits, plmn_count_right, plmns_right, bit_at, name_right, purged_right, imei_right, record_right, record_of, count_of, imsi_of, imsi_number, ascends, valid}
 use Rattle.paper.specs.TableSaid.{Within, Zero, RecordSaid, Before, TableSaid}
@@ -57,11 +58,11 @@ module _ (count : ℕ → Bool) (low high most at last : ℕ) (r : List ℕ) (sm
   unfolding counted
   counted-said e =
       let n = get_or r at 0 in
-      let c : count n ≡ true = and-true-left (count n) _ e in
+      let c : count n ≡ true = (and_parts (count n) _ e).0 in
       let k : n ≤ most = small n c in
-      let d = and-true-right (count n) _ e in
-      let b = and-true-left (all_in low high (part (at + 1) n r)) _ d in
-      let z = and-true-right (all_in low high (part (at + 1) n r)) _ d in
+      let d = (and_parts (count n) _ e).1 in
+      let b = (and_parts (all_in low high (part (at + 1) n r)) _ d).0 in
+      let z = (and_parts (all_in low high (part (at + 1) n r)) _ d).1 in
       (c, within-said low high (at + 1) n last r (omega arith) (omega arith) b, zero-said (at + 1 + n) (most - n) (at + most) r (omega arith) (omega arith) z)
 
   said-counted : count (get_or r at 0) ≡ true → Within low high r (at + 1) last → Zero r (at + 1 + get_or r at 0) (at + most)
@@ -70,8 +71,8 @@ module _ (count : ℕ → Bool) (low high most at last : ℕ) (r : List ℕ) (sm
   said-counted c w z =
       let n = get_or r at 0 in
       let k : n ≤ most = small n c in
-      and-true_both (count n) _ c
-      (and-true_both (all_in low high (part (at + 1) n r)) _ (said-within low high (at + 1) n last r (omega arith) (omega arith) w)
+      and_from (count n) _ c
+      (and_from (all_in low high (part (at + 1) n r)) _ (said-within low high (at + 1) n last r (omega arith) (omega arith) w)
       (said-zero (at + 1 + n) (most - n) (at + most) r (omega arith) (omega arith) z))
 
 -- ---- a record
@@ -96,14 +97,14 @@ module _ (r : List ℕ) (long : length r ≡ 256) where
       let p = right_parts r e in
       let imsi = counted-said _ 48 57 15 0 (get_or r 0 0) r imsi_count (omega arith) (omega arith) p.imsi in
       let plmns : get_or r 28 0 ≤ 8 = leb-true (get_or r 28 0) 8 p.plmn_count in
-      let bits = and-true-right (ltb (get_or r 56 0) 4) _ p.purged in
-      let mme-bit = and-true-left (not (bit_at 56 0 r) || ltb 0 (get_or r 64 0)) _ bits in
-      let sgsn-bit = and-true-right (not (bit_at 56 0 r) || ltb 0 (get_or r 64 0)) _ bits in
+      let bits = (and_parts (ltb (get_or r 56 0) 4) _ p.purged).1 in
+      let mme-bit = (and_parts (not (bit_at 56 0 r) || ltb 0 (get_or r 64 0)) _ bits).0 in
+      let sgsn-bit = (and_parts (not (bit_at 56 0 r) || ltb 0 (get_or r 64 0)) _ bits).1 in
       let mme = counted-said _ 0x21 0x7E 64 64 (64 + get_or r 64 0) r name_count (omega arith) refl p.mme_name in
       let sgsn = counted-said _ 0x21 0x7E 64 129 (129 + get_or r 129 0) r name_count (omega arith) refl p.sgsn_name in
       let imei = counted-said _ 48 57 15 204 (204 + get_or r 204 0) r imei_count (omega arith) refl p.imei in
       record {
-        imsi_count = (leb-true 6 (get_or r 0 0) (and-true-left (leb 6 (get_or r 0 0)) _ imsi.0), leb-true (get_or r 0 0) 15 (and-true-right (leb 6 (get_or r 0 0)) _ imsi.0));
+        imsi_count = (leb-true 6 (get_or r 0 0) (and_parts (leb 6 (get_or r 0 0)) _ imsi.0).0, leb-true (get_or r 0 0) 15 (and_parts (leb 6 (get_or r 0 0)) _ imsi.0).1);
         imsi_digits = imsi.1;
         imsi_end = imsi.2;
         subscription = ltb-true (get_or r 20 0) 4 p.subscription;
@@ -111,7 +112,7 @@ module _ (r : List ℕ) (long : length r ≡ 256) where
         plmn_count = plmns;
         unlisted_29 = zero-said 29 3 31 r refl (omega arith) p.unlisted_29;
         plmn_end = zero-said (32 + 3 * get_or r 28 0) (24 - 3 * get_or r 28 0) 55 r (omega arith) (omega arith) p.plmns;
-        purged = ltb-true (get_or r 56 0) 4 (and-true-left (ltb (get_or r 56 0) 4) _ p.purged);
+        purged = ltb-true (get_or r 56 0) 4 (and_parts (ltb (get_or r 56 0) 4) _ p.purged).0;
         purged_mme = λ q. (needs_name (get_or r 56 0 / 1 % 2) (get_or r 64 0)).0 mme-bit (omega arith);
         purged_sgsn = (needs_name (get_or r 56 0 / 2 % 2) (get_or r 129 0)).0 sgsn-bit;
         unlisted_57 = zero-said 57 7 63 r refl (omega arith) p.unlisted_57;
@@ -131,7 +132,7 @@ module _ (r : List ℕ) (long : length r ≡ 256) where
   pub said_record : RecordSaid r → record_right r ≡ true
   unfolding imsi_right two_bits plmn_count_right plmns_right purged_right name_right imei_right
   said_record s =
-      let digits-counted = and-true_both (leb 6 (get_or r 0 0)) _ (le-leb 6 (get_or r 0 0) s.imsi_count.0) (le-leb (get_or r 0 0) 15 s.imsi_count.1) in
+      let digits-counted = and_from (leb 6 (get_or r 0 0)) _ (le-leb 6 (get_or r 0 0) s.imsi_count.0) (le-leb (get_or r 0 0) 15 s.imsi_count.1) in
       let few = s.plmn_count in
       let mme-bit = (needs_name (get_or r 56 0 / 1 % 2) (get_or r 64 0)).1 (λ q. s.purged_mme (omega arith)) in
       let sgsn-bit = (needs_name (get_or r 56 0 / 2 % 2) (get_or r 129 0)).1 s.purged_sgsn in
@@ -143,7 +144,7 @@ module _ (r : List ℕ) (long : length r ≡ 256) where
         plmn_count = le-leb (get_or r 28 0) 8 few;
         unlisted_29 = said-zero 29 3 31 r refl (omega arith) s.unlisted_29;
         plmns = said-zero (32 + 3 * get_or r 28 0) (24 - 3 * get_or r 28 0) 55 r (omega arith) (omega arith) s.plmn_end;
-        purged = and-true_both (ltb (get_or r 56 0) 4) _ (lt-ltb (get_or r 56 0) 4 s.purged) (and-true_both (not (bit_at 56 0 r) || ltb 0 (get_or r 64 0)) _ mme-bit sgsn-bit);
+        purged = and_from (ltb (get_or r 56 0) 4) _ (lt-ltb (get_or r 56 0) 4 s.purged) (and_from (not (bit_at 56 0 r) || ltb 0 (get_or r 64 0)) _ mme-bit sgsn-bit);
         unlisted_57 = said-zero 57 7 63 r refl (omega arith) s.unlisted_57;
         mme_name = said-counted _ 0x21 0x7E 64 64 (64 + get_or r 64 0) r name_count (omega arith) refl (le-leb (get_or r 64 0) 64 s.mme_length) s.mme_name s.mme_end;
         sgsn_name = said-counted _ 0x21 0x7E 64 129 (129 + get_or r 129 0) r name_count (omega arith) refl (le-leb (get_or r 129 0) 64 s.sgsn_length) s.sgsn_name s.sgsn_end;

@@ -7,7 +7,7 @@ use Prim.Native.Nat.{ℕ, ◌+◌, ◌≤◌}
 use native.Mathlib.Omega.{arith}
 use lib.Dec.{eqb}
 use borrow.Author.Tests.{eqb-true, eqb-false, eq-eqb, ne_eqb, not-true}
-use Rattle.wire.proofs.ListLaws.{and-true-left, and-true-right}
+use Rattle.std.proofs.lemmas.Bool.{and_parts}
 use Rattle.dictionary.specs.Rows.{key_of}
 use Rattle.paper.specs.Avp.{Avp, size_of}
 use Rattle.paper.specs.Reader.{Placed, Avps, whole, broken, more, sizes}
@@ -78,12 +78,12 @@ none_in (n ∷ ns) a e =
 once : (ns : List ℕ) → distinct ns ≡ true → (a : Avp) → size_in ns a + size_other ns a ≤ size_of a
 unfolding size_in size_if size_other distinct member
 once [] d a = omega arith
-once (n ∷ ns) d a = go (once ns (and-true-right (not (member n ns)) (distinct ns) d) a) (eqb (number_of a) n) refl
+once (n ∷ ns) d a = go (once ns (and_parts (not (member n ns)) (distinct ns) d).1 a) (eqb (number_of a) n) refl
   where
     go : size_in ns a + size_other ns a ≤ size_of a → (b : Bool) → eqb (number_of a) n ≡ b → size_if n a + size_in ns a + cond (b || member (number_of a) ns) 0 (size_of a) ≤ size_of a
     go r true e =
         let k = eqb-true (number_of a) n e in
-        let m : member (number_of a) ns ≡ false = rw k (not-true (member n ns) (and-true-left (not (member n ns)) (distinct ns) d)) in
+        let m : member (number_of a) ns ≡ false = rw k (not-true (member n ns) (and_parts (not (member n ns)) (distinct ns) d).0) in
         let z = none_in ns a m in
         rw (e, z) (omega arith)
     go r false e = rw e (omega arith)
@@ -138,8 +138,8 @@ key_among_all n l =
 pub key-number : (vendor code : ℕ) (a : Avp) → has_key vendor code a ≡ true → number_of a ≡ key_of vendor code
 unfolding has_key
 key-number vendor code a e =
-    let v = eqb-true a.vendor vendor (and-true-left (eqb a.vendor vendor) (eqb a.code code) e) in
-    let c = eqb-true a.code code (and-true-right (eqb a.vendor vendor) (eqb a.code code) e) in
+    let v = eqb-true a.vendor vendor (and_parts (eqb a.vendor vendor) (eqb a.code code) e).0 in
+    let c = eqb-true a.code code (and_parts (eqb a.vendor vendor) (eqb a.code code) e).1 in
     rw (v, c)
 
 -- an AVP of the key is one of those of the key

@@ -9,7 +9,7 @@ use native.Mathlib.Omega.{arith}
 use lib.ListN.{length, drop}
 use lib.Dec.{eqb}
 use borrow.Author.Tests.{eqb-true}
-use Rattle.wire.proofs.ListLaws.{and-true-left}
+use Rattle.std.proofs.lemmas.Bool.{and_parts}
 use Rattle.dictionary.specs.Rows.{key_of}
 use Rattle.paper.specs.Avp.{Avp, has_v, head_size, flags_of, vendor_of, avp_of, size_of, flags_for}
 use Rattle.paper.specs.Reader.{Placed, Avps, avps}
@@ -55,7 +55,7 @@ module _ (at : ℕ) (s : List ℕ) where
   read-least k p e =
       let x = drop (p.at - at) s in
       let a : p.avp ≡ avp_of x = stands_avp at s p (first_of_stands k.vendor k.code at s p e) in
-      let v = eqb-true p.avp.vendor k.vendor (and-true-left (eqb p.avp.vendor k.vendor) (eqb p.avp.code k.code) (first_of-key k.vendor k.code (avps at s) p e)) in
+      let v = eqb-true p.avp.vendor k.vendor (and_parts (eqb p.avp.vendor k.vendor) (eqb p.avp.code k.code) (first_of-key k.vendor k.code (avps at s) p e)).0 in
       let w : vendor_of x ≡ k.vendor = sym (ap (λ (b : Avp). b.vendor) a) ∙ v in
       let f : head_size p.avp.flags ≡ head_size (flags_of x) = ap (λ (b : Avp). head_size b.flags) a in
       let o = own_head x k.vendor w in

@@ -8,9 +8,9 @@ use native.Mathlib.Omega.{arith}
 use lib.Dec.{leb, ltb}
 use lib.ListN.{length, take, drop, get_or}
 use borrow.Author.Tests.{leb-true}
+use Rattle.std.proofs.lemmas.Bool.{and_from}
 use Rattle.wire.specs.Put.{put}
 use Rattle.wire.specs.Stretch.{all_in, zeros}
-use Rattle.wire.proofs.ListLaws.{and-true_both}
 use Rattle.paper.specs.Layout.{record_size, subscription_at, plmn_count_at, plmns_at, plmn_size, most_plmns}
 use Rattle.paper.specs.Table.{counted, imsi_right, two_bits, plmn_count_right, plmns_right, name_right, purged_right, imei_right, rules, all_hold, record_right}
 use Rattle.paper.specs.Correction.{value_size, value_right}
@@ -34,7 +34,7 @@ plmns_back v r n long e =
     let few : leb c most_plmns ≡ true = rw (count_stored v r n long) at p.plmn_count in
     let small : c ≤ most_plmns = leb-true c most_plmns few in
     let z : zeros (drop (1 + plmn_size * c) v) ≡ true = rw (count_stored v r n long, unused_stored v r n long (plmn_size * c) (omega arith)) at p.plmns in
-    and-true_both (leb c most_plmns) (zeros (drop (1 + plmn_size * c) v)) few z
+    and_from (leb c most_plmns) (zeros (drop (1 + plmn_size * c) v)) few z
 
 value_back : (kind : ℕ) (v r : List ℕ) → Corrects kind → length v ≡ value_size kind → length r ≡ record_size → record_right (with_value kind v r) ≡ true → value_right kind v ≡ true
 unfolding with_value value_size value_right

@@ -1,9 +1,10 @@
 -- Places of a request: an AVP that stands in it, and when the places that Failed-AVP names can be read.
 -- Assumes nothing.
-use Rattle.std.specs.Prelude.{◌≡◌, true, List, ℕ, ◌<◌, ◌≤◌, length}
-use Rattle.std.proofs.Math.Option.{Option, some}
+use Rattle.std.specs.Prelude.{◌≡◌, true, List, ℕ, ◌<◌, ◌≤◌, length, Option, Some, None}
+use Rattle.std.proofs.Math.Option as Math
+use Rattle.std.proofs.Math.Option.{some}
 use Rattle.paper.specs.declared.Failed.{Failed}
-use Rattle.paper.specs.declared.Failed.TheVariants.{Nothing, Whole, Bare, Missing}
+use Rattle.paper.specs.declared.Failed.TheVariants.{Whole, Bare, Missing}
 use Rattle.paper.specs.Avp.{framed, avp_of, bare_of}
 use Rattle.paper.specs.Reader.{Placed}
 use Rattle.paper.specs.Shown.{stretch}
@@ -25,12 +26,12 @@ pub record HeadIn (m : List ℕ) (p : Placed) : Type 0 where
   pub avp : p.avp ≡ bare_of (stretch m p.at p.end)
 
 -- what was found, if anything, stands in `m`
-abbrev pub Standing : List ℕ → Option Placed → Type 0
+abbrev pub Standing : List ℕ → Math.Option Placed → Type 0
 Standing m o = (p : Placed) → o ≡ some p → StandsIn m p
 
 -- what Failed-AVP shows can be read: its places lie inside the request, and what it shows whole is an AVP whose length is right
-abbrev pub ShownIn : List ℕ → Failed → Type 0
-ShownIn m Nothing = Unit {0}
-ShownIn m (Whole at to) = LiesIn m at to × (framed (stretch m at to) ≡ true)
-ShownIn m (Bare at to) = LiesIn m at to
-ShownIn m (Missing vendor code four) = Unit {0}
+abbrev pub ShownIn : List ℕ → Option Failed → Type 0
+ShownIn m None = Unit {0}
+ShownIn m (Some (Whole at to)) = LiesIn m at to × (framed (stretch m at to) ≡ true)
+ShownIn m (Some (Bare at to)) = LiesIn m at to
+ShownIn m (Some (Missing key four)) = Unit {0}

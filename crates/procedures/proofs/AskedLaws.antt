@@ -3,6 +3,8 @@
 use mathlib.Core.Path.{◌≡◌, refl, sym, ap, ◌∙◌, subst}
 use mathlib.Core.Bool.{Bool, true, false, cond}
 use mathlib.Core.Option.{Option, none, some}
+use Rattle.std.specs.Prelude.{is_some, unwrap_or}
+use Rattle.std.specs.Prelude as Given
 use mathlib.Core.List.{List, []}
 use Prim.Native.Nat.{ℕ}
 use native.Mathlib.Omega.{arith}
@@ -13,14 +15,16 @@ use Rattle.paper.specs.Avp.{bit}
 use Rattle.paper.specs.Find.{body_found}
 use Rattle.paper.specs.Layout.{most_entries}
 use Rattle.paper.specs.Profile.{ulr, pur, nor, rat_type, visited_plmn_id, ulr_flags, pur_flags, nor_flags}
-use Rattle.paper.specs.Reader.{Placed, or_else}
+use Rattle.paper.specs.Reader.{Placed}
 use Rattle.paper.specs.Request.{command_code, avps_of, find, value_of, number_of, is_there, imei_of}
 use Rattle.paper.specs.Table.{record_of, mme, sgsn}
-use Rattle.paper.specs.Fields.{store_imei}
-use Rattle.paper.specs.Asked.{flags_key, asked_of, imei_digits_of}
+use Rattle.paper.specs.Asked.{flags_key, flags_in, asked_of, imei_in}
 use Rattle.paper.specs.declared.Asked.{Asked}
+use Rattle.paper.proofs.GivenLaws.{flags-given}
+use Rattle.paper.proofs.ProcedureLaws.{imei-entries}
+use Rattle.paper.proofs.ViewLaws.{or_else-right}
 use Rattle.paper.specs.Procedures.{Done, sender, code_if, stranger, experimental, with_imei, other_type, updated, located, update_location, purges, purged, purge_ue, notified, notify, carried_out, cancel_bytes}
-use Rattle.procedures.specs.Values.{refused_update, Did, Carried, Purged}
+use Rattle.procedures.specs.Values.{refused_update, stored_if, Did, Carried, Purged}
 
 -- ---- the numbers of the request
 
@@ -33,29 +37,37 @@ module _ (m : List ℕ) (a : Asked) (e : a ≡ asked_of m) where
   unfolding asked_of
   rat_asked = ap (λ (x : Asked). x.rat) e
 
-  imei-asked : a.has_imei ≡ is_there (imei_of m)
+  flags-asked : a.flags ≡ flags_in m
   unfolding asked_of
-  imei-asked = ap (λ (x : Asked). x.has_imei) e
+  flags-asked = ap (λ (x : Asked). x.flags) e
 
-  ulr-flags : a.command ≡ ulr → a.flags ≡ number_of ulr_flags m
-  unfolding asked_of flags_key
-  ulr-flags h = ap (λ (x : Asked). x.flags) e ∙ ap (λ (c : ℕ). number_of (flags_key c) m) (sym command-asked ∙ h)
+  flags-number : unwrap_or a.flags 0 ≡ number_of (flags_key (command_code m)) m
+  flags-number = ap (λ (o : Given.Option ℕ). unwrap_or o 0) flags-asked ∙ flags-given m
 
-  pur-flags : a.command ≡ pur → a.flags ≡ number_of pur_flags m
-  unfolding asked_of flags_key
-  pur-flags h = ap (λ (x : Asked). x.flags) e ∙ ap (λ (c : ℕ). number_of (flags_key c) m) (sym command-asked ∙ h)
+  ulr-flags : a.command ≡ ulr → unwrap_or a.flags 0 ≡ number_of ulr_flags m
+  unfolding flags_key
+  ulr-flags h = flags-number ∙ ap (λ (c : ℕ). number_of (flags_key c) m) (sym command-asked ∙ h)
 
-  pur-has-flags : a.command ≡ pur → a.has_flags ≡ is_there (find pur_flags (avps_of m))
-  unfolding asked_of flags_key
-  pur-has-flags h = ap (λ (x : Asked). x.has_flags) e ∙ ap (λ (c : ℕ). is_there (find (flags_key c) (avps_of m))) (sym command-asked ∙ h)
+  pur-flags : a.command ≡ pur → unwrap_or a.flags 0 ≡ number_of pur_flags m
+  unfolding flags_key
+  pur-flags h = flags-number ∙ ap (λ (c : ℕ). number_of (flags_key c) m) (sym command-asked ∙ h)
 
-  nor-flags : (a.command ≡ ulr → ⊥) → (a.command ≡ pur → ⊥) → a.flags ≡ number_of nor_flags m
-  unfolding asked_of flags_key
+  some-if : (b : Bool) (n : ℕ) → is_some (cond b (Given.Some n) Given.None) ≡ b
+  some-if true n = refl
+  some-if false n = refl
+
+  pur-has-flags : a.command ≡ pur → is_some a.flags ≡ is_there (find pur_flags (avps_of m))
+  unfolding flags_in flags_key
+  pur-has-flags h =
+      ap is_some flags-asked ∙ some-if _ _ ∙ ap (λ (c : ℕ). is_there (find (flags_key c) (avps_of m))) (sym command-asked ∙ h)
+
+  nor-flags : (a.command ≡ ulr → ⊥) → (a.command ≡ pur → ⊥) → unwrap_or a.flags 0 ≡ number_of nor_flags m
+  unfolding flags_key
   nor-flags n₁ n₂ =
       let k = command-asked in
       let u : eqb (command_code m) ulr ≡ false = ne_eqb (command_code m) ulr (λ q. n₁ (k ∙ q)) in
       let p : eqb (command_code m) pur ≡ false = ne_eqb (command_code m) pur (λ q. n₂ (k ∙ q)) in
-      ap (λ (x : Asked). x.flags) e ∙ rw (u, p)
+      flags-number ∙ rw (u, p)
 
   is-command : (code : ℕ) → a.command ≡ code → eqb (command_code m) code ≡ true
   is-command code h = eq-eqb (command_code m) code (sym command-asked ∙ h)
@@ -68,27 +80,15 @@ module _ (m : List ℕ) (a : Asked) (e : a ≡ asked_of m) where
 
   -- ---- the ruling
 
-  or_none : (x : Option ℕ) → or_else x none ≡ x
-  or_none none = refl
-  or_none (some n) = refl
-
-  pub ruled_update : {x : Option ℕ} (plmn r : List ℕ) → a.command ≡ ulr → plmn ≡ value_of visited_plmn_id m → x ≡ refused_update a.flags a.rat plmn r → x ≡ experimental m r
+  pub ruled_update : {x : Option ℕ} {w : ℕ} (plmn r : List ℕ) → w ≡ unwrap_or a.flags 0 → a.command ≡ ulr → plmn ≡ value_of visited_plmn_id m → x ≡ refused_update w a.rat plmn r → x ≡ experimental m r
   unfolding refused_update experimental
-  ruled_update plmn r h p q =
+  ruled_update plmn r f h p q =
       q
-      ∙ rw (ulr-flags h, rat_asked, p, is-command ulr h, other-command ulr nor h (λ z. omega arith), or_none)
+      ∙ rw (f ∙ ulr-flags h, rat_asked, p, is-command ulr h, other-command ulr nor h (λ z. omega arith), or_else-right)
 
-  pub ruled-stranger : (host r : List ℕ) → a.command ≡ nor → host ≡ sender m → stranger host r ≡ true → some 5423 ≡ experimental m r
+  pub ruled-stranger : {x : Option ℕ} (host r : List ℕ) → a.command ≡ nor → host ≡ sender m → x ≡ code_if (stranger host r) 5423 → x ≡ experimental m r
   unfolding experimental
-  ruled-stranger host r h s q =
-      let k : stranger (sender m) r ≡ true = rw s at q in
-      rw (other-command nor ulr h (λ z. omega arith), is-command nor h, k)
-
-  pub ruled-known : (host r : List ℕ) → a.command ≡ nor → host ≡ sender m → stranger host r ≡ false → none ≡ experimental m r
-  unfolding experimental
-  ruled-known host r h s q =
-      let k : stranger (sender m) r ≡ false = rw s at q in
-      rw (other-command nor ulr h (λ z. omega arith), is-command nor h, k)
+  ruled-stranger host r h s q = q ∙ rw (other-command nor ulr h (λ z. omega arith), is-command nor h, s)
 
   pub ruled-other : (r : List ℕ) → (a.command ≡ ulr → ⊥) → (a.command ≡ nor → ⊥) → none ≡ experimental m r
   unfolding experimental
@@ -96,15 +96,10 @@ module _ (m : List ℕ) (a : Asked) (e : a ≡ asked_of m) where
 
   -- ---- what the request comes to
 
-  imei-table : (p : Option Placed) (i : ℕ) (d : Done) → (with_imei p i d).table ≡ cond (is_there p) (store_imei i (body_found p) d.table) d.table
+  imei-table : (p : Option Placed) (i : ℕ) (d : Done) → (with_imei p i d).table ≡ stored_if (cond (is_there p) (Given.Some (body_found p)) Given.None) i d.table
   unfolding with_imei
   imei-table none i d = refl
   imei-table (some x) i d = refl
-
-  imei-entries : (p : Option Placed) (i : ℕ) (d : Done) → (with_imei p i d).entries ≡ d.entries
-  unfolding with_imei
-  imei-entries none i d = refl
-  imei-entries (some x) i d = refl
 
   imei-purges : (p : Option Placed) (i : ℕ) (d : Done) → (with_imei p i d).purges ≡ d.purges
   unfolding with_imei
@@ -117,45 +112,46 @@ module _ (m : List ℕ) (a : Asked) (e : a ≡ asked_of m) where
   located-purges false type sent r i t = refl
 
   -- the nodes changed as `d` says, then the IMEI stored
-  imei_carried : (imei : List ℕ) (i : ℕ) (d : Done) (cancel cancel' t₁ t₂ : List ℕ) → imei ≡ imei_digits_of m → d.purges ≡ 0 → Did d cancel t₁ cancel' → t₂ ≡ cond a.has_imei (store_imei i imei t₁) t₁
+  imei_carried : (imei : Given.Option (List ℕ)) (i : ℕ) (d : Done) (cancel cancel' t₁ t₂ : List ℕ) → imei ≡ imei_in m → d.purges ≡ 0 → Did d cancel t₁ cancel' → t₂ ≡ stored_if imei i t₁
       → Carried (with_imei (imei_of m) i d) cancel 0 t₂ cancel'
+  unfolding imei_in
   imei_carried imei i d cancel cancel' t₁ t₂ x z did s =
       record {
         did =
             record {
-              table = s ∙ rw (imei-asked, x, did.table) (sym (imei-table (imei_of m) i d));
+              table = s ∙ rw (x, did.table) (sym (imei-table (imei_of m) i d));
               list = did.list ∙ ap (λ es. put 0 (cancel_bytes most_entries es) cancel) (sym (imei-entries (imei_of m) i d));
             };
         flags = sym (imei-purges (imei_of m) i d ∙ z);
       }
 
-  module _ (host imei : List ℕ) (s : host ≡ sender m) (x : imei ≡ imei_digits_of m) (i : ℕ) (t cancel cancel' t₁ t₂ : List ℕ) where
-    pub carried_update : a.command ≡ ulr → Did (located (bit 1 a.flags) (other_type (bit 1 a.flags) (bit 0 a.flags) (bit 5 a.flags)) host (record_of t i) i t) cancel t₁ cancel'
-        → t₂ ≡ cond a.has_imei (store_imei i imei t₁) t₁ → Carried (carried_out m i t) cancel 0 t₂ cancel'
+  module _ (host : List ℕ) (imei : Given.Option (List ℕ)) (s : host ≡ sender m) (x : imei ≡ imei_in m) (i : ℕ) (t cancel cancel' t₁ t₂ : List ℕ) where
+    pub carried_update : {w : ℕ} → w ≡ unwrap_or a.flags 0 → a.command ≡ ulr → Did (located (bit 1 w) (other_type (bit 1 w) (bit 0 w) (bit 5 w)) host (record_of t i) i t) cancel t₁ cancel'
+        → t₂ ≡ stored_if imei i t₁ → Carried (carried_out m i t) cancel 0 t₂ cancel'
     unfolding carried_out update_location
-    carried_update h did q =
-        let type = other_type (bit 1 a.flags) (bit 0 a.flags) (bit 5 a.flags) in
+    carried_update {w} f h did q =
+        let type = other_type (bit 1 w) (bit 0 w) (bit 5 w) in
         subst (λ (d : Done). Carried d cancel 0 t₂ cancel') comes
-        (imei_carried imei i (located (bit 1 a.flags) type host (record_of t i) i t) cancel cancel' t₁ t₂ x (located-purges (bit 1 a.flags) type host (record_of t i) i t) did q)
+        (imei_carried imei i (located (bit 1 w) type host (record_of t i) i t) cancel cancel' t₁ t₂ x (located-purges (bit 1 w) type host (record_of t i) i t) did q)
       where
-        comes : with_imei (imei_of m) i (located (bit 1 a.flags) (other_type (bit 1 a.flags) (bit 0 a.flags) (bit 5 a.flags)) host (record_of t i) i t) ≡ carried_out m i t
-        comes = rw (is-command ulr h, ulr-flags h, s)
+        comes : with_imei (imei_of m) i (located (bit 1 w) (other_type (bit 1 w) (bit 0 w) (bit 5 w)) host (record_of t i) i t) ≡ carried_out m i t
+        comes = rw (is-command ulr h, f ∙ ulr-flags h, s)
 
-    pub carried_notify : (a.command ≡ ulr → ⊥) → (a.command ≡ pur → ⊥) → Did (notified (code_if (bit 0 a.flags) 1) host (record_of t i) i t) cancel t₁ cancel'
-        → t₂ ≡ cond a.has_imei (store_imei i imei t₁) t₁ → Carried (carried_out m i t) cancel 0 t₂ cancel'
+    pub carried_notify : {w : ℕ} → w ≡ unwrap_or a.flags 0 → (a.command ≡ ulr → ⊥) → (a.command ≡ pur → ⊥) → Did (notified (code_if (bit 0 w) 1) host (record_of t i) i t) cancel t₁ cancel'
+        → t₂ ≡ stored_if imei i t₁ → Carried (carried_out m i t) cancel 0 t₂ cancel'
     unfolding carried_out notify
-    carried_notify n₁ n₂ did q =
+    carried_notify {w} f n₁ n₂ did q =
         subst (λ (d : Done). Carried d cancel 0 t₂ cancel') comes
-        (imei_carried imei i (notified (code_if (bit 0 a.flags) 1) host (record_of t i) i t) cancel cancel' t₁ t₂ x refl did q)
+        (imei_carried imei i (notified (code_if (bit 0 w) 1) host (record_of t i) i t) cancel cancel' t₁ t₂ x refl did q)
       where
-        comes : with_imei (imei_of m) i (notified (code_if (bit 0 a.flags) 1) host (record_of t i) i t) ≡ carried_out m i t
-        comes = rw (not-command ulr n₁, not-command pur n₂, nor-flags n₁ n₂, s)
+        comes : with_imei (imei_of m) i (notified (code_if (bit 0 w) 1) host (record_of t i) i t) ≡ carried_out m i t
+        comes = rw (not-command ulr n₁, not-command pur n₂, f ∙ nor-flags n₁ n₂, s)
 
-    pub carried_purge : (r : ℕ) → a.command ≡ pur → Purged (purges mme host a.has_flags a.flags (record_of t i)) (purges sgsn host a.has_flags a.flags (record_of t i)) i t r t₁
+    pub carried_purge : (r : ℕ) → a.command ≡ pur → Purged (purges mme host (is_some a.flags) (unwrap_or a.flags 0) (record_of t i)) (purges sgsn host (is_some a.flags) (unwrap_or a.flags 0) (record_of t i)) i t r t₁
         → cancel' ≡ put 0 (cancel_bytes most_entries []) cancel → Carried (carried_out m i t) cancel r t₁ cancel'
     unfolding carried_out purge_ue
     carried_purge r h p q =
         subst (λ (d : Done). Carried d cancel r t₁ cancel') comes (record { did = record { table = p.table; list = q }; flags = p.flags })
       where
-        comes : purged (purges mme host a.has_flags a.flags (record_of t i)) (purges sgsn host a.has_flags a.flags (record_of t i)) i t ≡ carried_out m i t
+        comes : purged (purges mme host (is_some a.flags) (unwrap_or a.flags 0) (record_of t i)) (purges sgsn host (is_some a.flags) (unwrap_or a.flags 0) (record_of t i)) i t ≡ carried_out m i t
         comes = rw (other-command pur ulr h (λ z. omega arith), is-command pur h, pur-flags h, pur-has-flags h, s)

@@ -1,53 +1,81 @@
--- The values of the code in the paper's words: a slot, a type of cancellation, a ruling; and what a command left in the two buffers.
+-- The values of the code in the paper's words: a node, a type of cancellation, a refusal; and what a command left in the two buffers.
 -- Assumes nothing.
-use Rattle.std.specs.Prelude.{◌≡◌, Bool, true, false, ◌⊎◌, List, ℕ, ◌<◌}
-use Rattle.std.proofs.Math.Option.{Option, none, some}
+use Rattle.std.specs.Prelude.{◌≡◌, Bool, true, false, cond, leb, List, ℕ, ◌<◌, ◌-◌, slice_get, Option, Some, None, Result, Ok, Err}
+use Rattle.std.proofs.Math.Option as paper
 use Rattle.wire.specs.Put.{put}
 use Rattle.paper.specs.Avp.{bit}
+use Rattle.paper.specs.Fields.{store_imei}
 use Rattle.paper.specs.Layout.{most_entries}
 use Rattle.paper.specs.Reader.{or_else}
 use Rattle.paper.specs.Table as Table
 use Rattle.paper.specs.Table.{count_of, valid, mme, sgsn}
-use Rattle.paper.specs.Procedures.{Done, code_if, unsubscribed, rat_refused, restriction_of, plmn_refused, registered, purged, cancel_bytes}
-use Rattle.procedures.specs.declared.nodes.Slot.{Slot}
-use Rattle.procedures.specs.declared.cancel.Cancel.{Cancel}
-use Rattle.procedures.specs.declared.cancel.Cancel.TheVariants.{Not, With}
-use Rattle.procedures.specs.declared.verdict.Ruling.{Ruling}
-use Rattle.procedures.specs.declared.verdict.Ruling.TheVariants.{Fine, Experimental}
+use Rattle.paper.specs.Procedures.{Done, code_if, unsubscribed, rat_bits, rat_refused, restriction_of, plmn_refused, registered, purged, cancel_bytes}
+use Rattle.paper.specs.declared.ExperimentalCode.{ExperimentalCode}
+use Rattle.procedures.specs.declared.nodes.Node.{Node}
+use Rattle.procedures.specs.declared.nodes.Node.TheVariants.{Mme, Sgsn}
+use Rattle.procedures.specs.declared.cancel.CancellationType.{CancellationType}
+use Rattle.procedures.specs.declared.cancel.CancellationType.TheVariants.{MmeUpdate, SgsnUpdate, InitialAttach}
+use Rattle.procedures.specs.declared.subscriber.Subscriber.{Subscriber}
 
 -- record `i` of a valid table
 pub record Held (t : List ℕ) (i : ℕ) : Type 0 where
   pub right : valid t ≡ true
   pub below : i < count_of t
 
-unfoldable pub slot_of : Slot → Table.Slot
-slot_of s = record { number = s.number; at = s.at; purge_bit = s.bit }
+-- the bytes of a record
+abbrev pub bytes_of : Subscriber → List ℕ
+bytes_of s = s.record.bytes.now
 
--- one of 01's two nodes
-abbrev pub IsNode : Slot → Type 0
-IsNode s = (slot_of s ≡ mme) ⊎ (slot_of s ≡ sgsn)
+-- each node: 01's description of it, and the other one
+abbrev pub slot_of : Node → Table.Slot
+slot_of Mme = mme
+slot_of Sgsn = sgsn
+
+abbrev pub other_of : Node → Node
+other_of Mme = Sgsn
+other_of Sgsn = Mme
 
 -- each case of a ruling: its Experimental-Result-Code, or none
-abbrev pub code_of : Ruling → Option ℕ
-code_of Fine = none
-code_of (Experimental c) = some c.0
+abbrev pub code_of : Result Unit ExperimentalCode → paper.Option ℕ
+code_of (Ok u) = paper.none
+code_of (Err c) = paper.some c.0
+
+-- the bit of a RAT-Type in Access-Restriction-Data, if it has one
+unfoldable pub bit_of_rat : ℕ → Option ℕ
+bit_of_rat rat = cond (leb 1000 rat) (slice_get rat_bits (rat - 1000)) None
 
 -- what refuses a ULR of these numbers
-unfoldable pub refused_update : ℕ → ℕ → List ℕ → List ℕ → Option ℕ
+unfoldable pub refused_update : ℕ → ℕ → List ℕ → List ℕ → paper.Option ℕ
 refused_update flags rat plmn r =
     or_else (code_if (unsubscribed (bit 1 flags) r) 5420)
     (or_else (code_if (rat_refused rat (restriction_of r)) 5421)
     (code_if (plmn_refused plmn r) 5004))
 
--- each case of a cancellation: its type, or none
-abbrev pub type_of : Cancel → Option ℕ
-type_of Not = none
-type_of (With kind) = some kind
+-- each Cancellation-Type: its number
+abbrev pub type_number : CancellationType → ℕ
+type_number MmeUpdate = 0
+type_number SgsnUpdate = 1
+type_number InitialAttach = 4
+
+-- that of a node displaced by an update of its own kind
+abbrev pub update_of : Node → CancellationType
+update_of Mme = MmeUpdate
+update_of Sgsn = SgsnUpdate
+
+-- each case of a cancellation: the number of its type, or none
+abbrev pub type_of : Option CancellationType → paper.Option ℕ
+type_of None = paper.none
+type_of (Some kind) = paper.some (type_number kind)
 
 -- a node that is cancelled is cleared where it is registered
-unfoldable pub clears : Table.Slot → Option ℕ → List ℕ → Bool
-clears slot none r = false
-clears slot (some type) r = registered slot r
+unfoldable pub clears : Table.Slot → paper.Option ℕ → List ℕ → Bool
+clears slot paper.none r = false
+clears slot (paper.some type) r = registered slot r
+
+-- the table with the IMEI stored, where there is one
+abbrev pub stored_if : Option (List ℕ) → ℕ → List ℕ → List ℕ
+stored_if None i t = t
+stored_if (Some digits) i t = store_imei i digits t
 
 -- the table and the list are those of `d`
 pub record Did (d : Done) (cancel t' cancel' : List ℕ) : Type 0 where

@@ -1,123 +1,126 @@
 // What an accepted request does. The list of nodes is written while the record is as it was; then the record is changed.
-ghost use Rattle.std.specs.Prelude.{◌≡◌, true, cond, List, ℕ, ◌≤◌, length};
+ghost use Rattle.std.specs.Prelude.{◌≡◌, true, cond, List, ℕ, ◌≤◌, length, is_some, unwrap_or, option_copied, IfSome};
 ghost use Rattle.paper.specs.Avp.{bit};
-ghost use Rattle.paper.specs.Layout.{cancel_size};
+ghost use Rattle.paper.specs.Layout.{most_name, cancel_size};
 ghost use Rattle.paper.specs.Request.{is_name, imei_digits};
 ghost use Rattle.paper.specs.Table.{mme, sgsn, record_of};
-ghost use Rattle.paper.specs.Fields.{store_imei};
-ghost use Rattle.paper.specs.Asked.{asked_of, imei_digits_of};
-ghost use Rattle.paper.specs.Procedures.{sender, clear, code_if, other_type, updated, located, purges, purged_if, notified, carried_out};
-ghost use Rattle.procedures.specs.Values.{slot_of, IsNode, Held, type_of, clears, Did, Purged, Carried};
+ghost use Rattle.paper.specs.Asked.{asked_of, imei_in};
+ghost use Rattle.paper.specs.Procedures.{sender, register, clear, code_if, other_type, updated, located, purges, purged_if, notified, carried_out};
+ghost use Rattle.procedures.specs.Values.{slot_of, other_of, update_of, type_number, type_of, bytes_of, Held, clears, stored_if, Did, Purged, Carried};
 
-use crate::cancel::{Cancel, list_notified, list_updated, no_entries};
-use crate::flags::{INITIAL_ATTACH, S6A_INDICATOR, SINGLE_REGISTRATION, bit_of};
-use crate::nodes::{Slot, is_sender, mme_slot, sgsn_slot};
+use crate::cancel::{CancellationType, list_notified, list_updated, no_entries};
+use crate::flags::{Flags, bit_of};
+use crate::nodes::Node;
+use crate::subscriber::Subscriber;
 use paper::Asked;
 use paper::profile::{PUR, ULR};
 
 // ---- a node cleared, a purge bit set, the IMEI stored, each where it applies
+// A record that is written stays (t, i): a struct that held the table's `&mut` would need a clause on its reference at each function, in place of `Held`.
 
 // The node is cancelled, and registered: it is to be cleared.
-fn is_cleared(t: &[u8], i: usize, slot: Slot, how: Cancel) -> bool
-    requires { (Held t.now i) × (IsNode slot) }
-    ensures { result ≡ clears (slot_of slot) (type_of how) (record_of t.now i) }
+fn is_cleared(subscriber: Subscriber, node: Node, how: Option<CancellationType>) -> bool
+    ensures { result ≡ clears (slot_of node) (type_of how) (bytes_of subscriber.entry) }
 {
-    let at = slot.at;
-    match how {
-        Cancel::Not => false,
-        Cancel::With(_) => 0 < table::record::byte_of(t, i, at),
-    }
+    how.is_some() & subscriber.is_registered(node)
+}
+
+// "the name becomes Origin-Host; its purge bit is cleared". No bytes for a name clear the node.
+fn register(t: &mut [u8], i: usize, node: Node, name: &[u8])
+    requires { (Held t.old i) × (length name.now ≤ most_name) }
+    ensures { t.new ≡ register (slot_of node) name.now i t.old }
+{
+    table::record::store_node(t, i, node.name_at(), node.purge_bit(), name);
 }
 
 // "name and purge bit are cleared"
-fn clear_if(t: &mut [u8], i: usize, slot: Slot, gone: bool)
-    requires { (Held t.old i) × (IsNode slot) }
-    ensures { t.new ≡ cond gone (clear (slot_of slot) i t.old) t.old }
+fn clear_if(t: &mut [u8], i: usize, node: Node, gone: bool)
+    requires { Held t.old i }
+    ensures { t.new ≡ cond gone (clear (slot_of node) i t.old) t.old }
 {
     if gone {
-        table::record::store_node(t, i, slot.at, slot.bit, b"");
+        register(t, i, node, b"");
     }
 }
 
 // "gets its purge bit"
-fn purge_if(t: &mut [u8], i: usize, slot: Slot, told: bool)
-    requires { (Held t.old i) × (IsNode slot) }
-    ensures { t.new ≡ purged_if told (slot_of slot) i t.old }
+fn purge_if(t: &mut [u8], i: usize, node: Node, told: bool)
+    requires { Held t.old i }
+    ensures { t.new ≡ purged_if told (slot_of node) i t.old }
 {
     if told {
-        table::record::store_purged(t, i, slot.bit);
+        table::record::store_purged(t, i, node.purge_bit());
     }
 }
 
 // "IMEI, if there, is stored."
-fn store_imei_if(t: &mut [u8], i: usize, there: bool, imei: &[u8])
-    requires { (Held t.old i) × (there ≡ true → imei_digits imei.now ≡ true) }
-    ensures { t.new ≡ cond there (store_imei i imei.now t.old) t.old }
+fn store_imei_if(t: &mut [u8], i: usize, imei: Option<&[u8]>)
+    requires { (Held t.old i) × (IfSome (option_copied imei) (λ x. imei_digits x ≡ true)) }
+    ensures { t.new ≡ stored_if (option_copied imei.entry) i t.old }
 {
-    if there {
-        table::record::store_imei(t, i, imei);
+    if let Some(digits) = imei {
+        table::record::store_imei(t, i, digits);
     }
 }
 
 // ---- ULR
 
 // "Single-Registration lists it with type 1, else Initial-Attach lists it with type 4"; on S6d "Single-Registration has no effect".
-fn other_type(flags: u32) -> Cancel
-    ensures { type_of result ≡ other_type (bit 1 flags) (bit 0 flags) (bit 5 flags) }
+fn other_type(flags: Flags) -> Option<CancellationType>
+    ensures { type_of result ≡ other_type (bit 1 flags.0) (bit 0 flags.0) (bit 5 flags.0) }
 {
-    if bit_of(flags, S6A_INDICATOR) & bit_of(flags, SINGLE_REGISTRATION) {
-        return Cancel::With(1);
+    let obeyed = flags.on_s6a() & flags.single_registration();
+    if obeyed {
+        return Some(CancellationType::SgsnUpdate);
     }
-    if bit_of(flags, INITIAL_ATTACH) {
-        return Cancel::With(4);
+    if flags.initial_attach() {
+        return Some(CancellationType::InitialAttach);
     }
-    Cancel::Not
+    None
 }
 
-// The sender becomes the node `own`, and `other` is cancelled as `how` says.
+// The sender becomes the node `own`, and the other one is cancelled as `how` says.
 fn update_node(
     t: &mut [u8],
     i: usize,
-    own: Slot,
-    other: Slot,
-    kind: u8,
-    how: Cancel,
+    own: Node,
+    how: Option<CancellationType>,
     host: &[u8],
     cancel: &mut [u8],
 )
-    requires { (Held t.old i) × (IsNode own) × (IsNode other) × (is_name host.now ≡ true) × (cancel_size ≤ length cancel.old) }
-    ensures { Did (updated (slot_of own) (slot_of other) kind (type_of how) host.now (record_of t.old i) i t.old) cancel.old t.new cancel.new }
+    requires { (Held t.old i) × (is_name host.now ≡ true) × (cancel_size ≤ length cancel.old) }
+    ensures { Did (updated (slot_of own) (slot_of (other_of own)) (type_number (update_of own)) (type_of how) host.now (record_of t.old i) i t.old) cancel.old t.new cancel.new }
 {
-    let gone = is_cleared(t, i, other, how);
-    list_updated(cancel, t, i, own, other, kind, how, host);
-    table::record::store_node(t, i, own.at, own.bit, host);
+    let subscriber = Subscriber::at(t, i);
+    let other = own.other();
+    let gone = is_cleared(subscriber, other, how);
+    list_updated(cancel, subscriber, own, how, host);
+    register(t, i, own, host);
     clear_if(t, i, other, gone);
 }
 
 // "ULR on S6a: [..] Cancellation-Type 0"; "On S6d, for the SGSN: type 1".
-fn update_location(t: &mut [u8], i: usize, flags: u32, host: &[u8], cancel: &mut [u8])
+fn update_location(t: &mut [u8], i: usize, flags: Flags, host: &[u8], cancel: &mut [u8])
     requires { (Held t.old i) × (is_name host.now ≡ true) × (cancel_size ≤ length cancel.old) }
-    ensures { Did (located (bit 1 flags) (other_type (bit 1 flags) (bit 0 flags) (bit 5 flags)) host.now (record_of t.old i) i t.old) cancel.old t.new cancel.new }
+    ensures { Did (located (bit 1 flags.0) (other_type (bit 1 flags.0) (bit 0 flags.0) (bit 5 flags.0)) host.now (record_of t.old i) i t.old) cancel.old t.new cancel.new }
 {
-    let mme = mme_slot();
-    let sgsn = sgsn_slot();
-    let how = other_type(flags);
-    if bit_of(flags, S6A_INDICATOR) {
-        update_node(t, i, mme, sgsn, 0, how, host, cancel);
+    let own = if flags.on_s6a() {
+        Node::Mme
     } else {
-        update_node(t, i, sgsn, mme, 1, how, host, cancel);
-    }
+        Node::Sgsn
+    };
+    update_node(t, i, own, other_type(flags), host, cancel);
 }
 
 // ---- PUR
 
 // "each registered name equal to Origin-Host gets its purge bit; with PUR-Flags only where its bit is set too"
-fn is_purged(t: &[u8], i: usize, slot: Slot, host: &[u8], there: bool, flags: u32) -> bool
-    requires { (Held t.now i) × (IsNode slot) }
-    ensures { result ≡ purges (slot_of slot) host.now there flags (record_of t.now i) }
+fn is_purged(subscriber: Subscriber, node: Node, host: &[u8], flags: Option<u32>) -> bool
+    ensures { result ≡ purges (slot_of node) host.now (is_some flags) (unwrap_or flags 0) (bytes_of subscriber.entry) }
 {
-    let bit = slot.bit as u32;
-    is_sender(t, i, slot, host) & (!there | bit_of(flags, bit))
+    let bit = node.purge_bit() as u32;
+    let told = flags.is_none_or(|word| bit_of(word, bit));
+    subscriber.is_sender(node, host) & told
 }
 
 // A bit of PUA-Flags.
@@ -128,42 +131,41 @@ fn flag_if(told: bool, flag: u32) -> u32
 }
 
 // Answers PUA-Flags: "the purge bits this request sets".
-fn purge_ue(t: &mut [u8], i: usize, host: &[u8], there: bool, flags: u32) -> u32
+fn purge_ue(t: &mut [u8], i: usize, host: &[u8], flags: Option<u32>) -> u32
     requires { Held t.old i }
-    ensures { Purged (purges mme host.now there flags (record_of t.old i)) (purges sgsn host.now there flags (record_of t.old i)) i t.old result t.new }
+    ensures { Purged (purges mme host.now (is_some flags) (unwrap_or flags 0) (record_of t.old i)) (purges sgsn host.now (is_some flags) (unwrap_or flags 0) (record_of t.old i)) i t.old result t.new }
 {
-    let mme = mme_slot();
-    let sgsn = sgsn_slot();
-    let in_mme = is_purged(t, i, mme, host, there, flags);
-    let in_sgsn = is_purged(t, i, sgsn, host, there, flags);
-    purge_if(t, i, mme, in_mme);
-    purge_if(t, i, sgsn, in_sgsn);
+    let subscriber = Subscriber::at(t, i);
+    let in_mme = is_purged(subscriber, Node::Mme, host, flags);
+    let in_sgsn = is_purged(subscriber, Node::Sgsn, host, flags);
+    purge_if(t, i, Node::Mme, in_mme);
+    purge_if(t, i, Node::Sgsn, in_sgsn);
     flag_if(in_mme, 1) + flag_if(in_sgsn, 2)
 }
 
 // ---- NOR
 
 // Single-Registration of NOR-Flags.
-fn notified_type(flags: u32) -> Cancel
-    ensures { type_of result ≡ code_if (bit 0 flags) 1 }
+fn notified_type(flags: Flags) -> Option<CancellationType>
+    ensures { type_of result ≡ code_if (bit 0 flags.0) 1 }
 {
-    if bit_of(flags, SINGLE_REGISTRATION) {
-        Cancel::With(1)
+    if flags.single_registration() {
+        Some(CancellationType::SgsnUpdate)
     } else {
-        Cancel::Not
+        None
     }
 }
 
 // "Single-Registration lists a registered SGSN with type 1 (unless it is the sender) and clears it."
-fn notify(t: &mut [u8], i: usize, flags: u32, host: &[u8], cancel: &mut [u8])
+fn notify(t: &mut [u8], i: usize, flags: Flags, host: &[u8], cancel: &mut [u8])
     requires { (Held t.old i) × (cancel_size ≤ length cancel.old) }
-    ensures { Did (notified (code_if (bit 0 flags) 1) host.now (record_of t.old i) i t.old) cancel.old t.new cancel.new }
+    ensures { Did (notified (code_if (bit 0 flags.0) 1) host.now (record_of t.old i) i t.old) cancel.old t.new cancel.new }
 {
-    let sgsn = sgsn_slot();
+    let subscriber = Subscriber::at(t, i);
     let how = notified_type(flags);
-    let gone = is_cleared(t, i, sgsn, how);
-    list_notified(cancel, t, i, sgsn, how, host);
-    clear_if(t, i, sgsn, gone);
+    let gone = is_cleared(subscriber, Node::Sgsn, how);
+    list_notified(cancel, subscriber, Node::Sgsn, how, host);
+    clear_if(t, i, Node::Sgsn, gone);
 }
 
 // ---- the command
@@ -174,22 +176,26 @@ pub fn carry_out(
     i: usize,
     asked: Asked,
     host: &[u8],
-    imei: &[u8],
+    imei: Option<&[u8]>,
     cancel: &mut [u8],
 ) -> u32
-    requires { (Held t.old i) × (is_name host.now ≡ true) × (asked.has_imei ≡ true → imei_digits imei.now ≡ true) × (cancel_size ≤ length cancel.old) }
-    ensures { (m : List ℕ) → asked ≡ asked_of m → host.now ≡ sender m → imei.now ≡ imei_digits_of m → Carried (carried_out m i t.old) cancel.old result t.new cancel.new }
+    requires { (Held t.old i) × (is_name host.now ≡ true) × (IfSome (option_copied imei) (λ x. imei_digits x ≡ true)) × (cancel_size ≤ length cancel.old) }
+    ensures { (m : List ℕ) → asked ≡ asked_of m → host.now ≡ sender m → option_copied imei.entry ≡ imei_in m → Carried (carried_out m i t.old) cancel.old result t.new cancel.new }
 {
-    if asked.command == ULR {
-        update_location(t, i, asked.flags, host, cancel);
-        store_imei_if(t, i, asked.has_imei, imei);
-        return 0;
+    match asked.command {
+        ULR => {
+            update_location(t, i, Flags::of(asked.flags), host, cancel);
+            store_imei_if(t, i, imei);
+            0
+        }
+        PUR => {
+            no_entries(cancel);
+            purge_ue(t, i, host, asked.flags)
+        }
+        _ => {
+            notify(t, i, Flags::of(asked.flags), host, cancel);
+            store_imei_if(t, i, imei);
+            0
+        }
     }
-    if asked.command == PUR {
-        no_entries(cancel);
-        return purge_ue(t, i, host, asked.has_flags, asked.flags);
-    }
-    notify(t, i, asked.flags, host, cancel);
-    store_imei_if(t, i, asked.has_imei, imei);
-    0
 }

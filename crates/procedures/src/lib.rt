@@ -6,4 +6,5 @@ pub mod cancel;
 pub mod carry;
 pub mod flags;
 pub mod nodes;
+pub mod subscriber;
 pub mod verdict;

@@ -1,37 +1,55 @@
-// The nodes of a record: MME and SGSN are two slots of one description. Names are compared here and nowhere else.
+// The nodes of a record: MME and SGSN are two cases of one description. Names are compared here and nowhere else.
 ghost use Rattle.std.specs.Prelude.{◌≡◌};
-ghost use Rattle.paper.specs.Table.{mme, sgsn, record_of};
-ghost use Rattle.paper.specs.Procedures.{same_name, is_sender};
-ghost use Rattle.procedures.specs.Values.{slot_of, IsNode, Held};
+ghost use Rattle.paper.specs.Procedures.{same_name};
+ghost use Rattle.procedures.specs.Values.{slot_of, other_of};
 
 use paper::layout::{MME_AT, SGSN_AT};
 
-#[derive(Clone, Copy)]
-pub struct Slot {
-    // Its number in the list: 1 MME or 2 SGSN.
-    pub number: u8,
-    // The name's length stands here, the name behind it.
-    pub at: usize,
-    pub bit: u8,
+#[derive(Clone, Copy, Debug, PartialEq, Eq)]
+pub enum Node {
+    Mme,
+    Sgsn,
 }
 
-pub fn mme_slot() -> Slot
-    ensures { slot_of result ≡ mme }
-{
-    Slot {
-        number: 1,
-        at: MME_AT,
-        bit: 0,
+impl Node {
+    // Its number in the list: "1 MME or 2 SGSN".
+    pub(crate) fn number(self) -> u8
+        ensures { result ≡ (slot_of self).number }
+    {
+        match self {
+            Node::Mme => 1,
+            Node::Sgsn => 2,
+        }
     }
-}
 
-pub fn sgsn_slot() -> Slot
-    ensures { slot_of result ≡ sgsn }
-{
-    Slot {
-        number: 2,
-        at: SGSN_AT,
-        bit: 1,
+    // The name's length stands here in a record, the name behind it.
+    pub(crate) fn name_at(self) -> usize
+        ensures { result ≡ (slot_of self).at }
+    {
+        match self {
+            Node::Mme => MME_AT,
+            Node::Sgsn => SGSN_AT,
+        }
+    }
+
+    // "Bit 0 purged in MME, bit 1 purged in SGSN", in a record and in the flag words of a PUR.
+    pub(crate) fn purge_bit(self) -> u8
+        ensures { result ≡ (slot_of self).purge_bit }
+    {
+        match self {
+            Node::Mme => 0,
+            Node::Sgsn => 1,
+        }
+    }
+
+    // The other one of a record's two.
+    pub(crate) fn other(self) -> Node
+        ensures { result ≡ other_of self }
+    {
+        match self {
+            Node::Mme => Node::Sgsn,
+            Node::Sgsn => Node::Mme,
+        }
     }
 }
 
@@ -40,14 +58,4 @@ pub fn same_name(a: &[u8], b: &[u8]) -> bool
     ensures { result ≡ same_name a.now b.now }
 {
     wire::stretch::same_bytes(a, b)
-}
-
-// The node is registered under the sender's name.
-pub fn is_sender(t: &[u8], i: usize, slot: Slot, host: &[u8]) -> bool
-    requires { (Held t.now i) × (IsNode slot) }
-    ensures { result ≡ is_sender (slot_of slot) host.now (record_of t.now i) }
-{
-    let at = slot.at;
-    let name = table::record::counted_of(t, i, at);
-    (0 < name.len()) & same_name(name, host)
 }

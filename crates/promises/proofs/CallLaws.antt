@@ -7,9 +7,9 @@ use Prim.Native.Nat.{ℕ, zero, suc, ◌+◌, ◌*◌, ◌/◌, ◌%◌, ◌^◌
 use native.Mathlib.Omega.{arith}
 use lib.Dec.{leb, lit<}
 use borrow.Author.Tests.{leb-true}
+use Rattle.std.proofs.lemmas.Bool.{and_parts}
 use Rattle.wire.specs.Number.{Bytes}
 use Rattle.wire.specs.Stretch.{all_in}
-use Rattle.wire.proofs.ListLaws.{and-true-left, and-true-right}
 use Rattle.paper.specs.Correction.{Corrected, corrected}
 use Rattle.paper.specs.Outcome.{Lent, Outcome, outcome}
 use Rattle.paper.proofs.OutcomeLaws.{outcome-size}
@@ -28,8 +28,8 @@ of_correction P p c = subst (P c.table c.frame) (sym c.met) (p c.table c.frame)
 pub bytes-seen : (s : List ℕ) → all_in 0 255 s ≡ true → Bytes s
 unfolding all_in
 bytes-seen [] e i = lit< tt
-bytes-seen (x ∷ s) e zero = let h = leb-true x 255 (and-true-right (leb 0 x) _ (and-true-left (leb 0 x && leb x 255) _ e)) in omega arith
-bytes-seen (x ∷ s) e (suc i) = bytes-seen s (and-true-right (leb 0 x && leb x 255) _ e) i
+bytes-seen (x ∷ s) e zero = let h = leb-true x 255 (and_parts (leb 0 x) _ (and_parts (leb 0 x && leb x 255) _ e).0).1 in omega arith
+bytes-seen (x ∷ s) e (suc i) = bytes-seen s (and_parts (leb 0 x && leb x 255) _ e).1 i
 
 -- ---- from C
 

@@ -9,7 +9,7 @@ use native.Mathlib.Omega.{arith}
 use lib.Dec.{ltb, eqb}
 use lib.ListN.{length}
 use borrow.Author.Tests.{ltb-false, eqb-true}
-use Rattle.wire.proofs.ListLaws.{and-true-left}
+use Rattle.std.proofs.lemmas.Bool.{and_parts}
 use Rattle.paper.specs.Avp.{avp_of}
 use Rattle.paper.specs.Layout.{least_request, most_request}
 use Rattle.paper.specs.Newer.{asking, Accepting, Accepted, WidenedRequest, Fits}
@@ -62,7 +62,7 @@ module _ (l : Lent) (h : Accepted l) where
       let m = l.request in
       let t = (accepted_tested l h).size in
       record {
-        mended = eqb-true (message_length m) (length m) (and-true-left (eqb (message_length m) (length m)) _ (passed _ _ (accepted-passes l h).size));
+        mended = eqb-true (message_length m) (length m) (and_parts (eqb (message_length m) (length m)) _ (passed _ _ (accepted-passes l h).size)).0;
         least = accepted-least l h;
         most = ltb-false most_request (length m) (or-false-right (ltb (length m) least_request) _ t);
       }

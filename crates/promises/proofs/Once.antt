@@ -5,7 +5,8 @@ use mathlib.Core.Bool.{cond}
 use mathlib.Core.Logic.{◌≢◌}
 use mathlib.Core.Option.{Option, none, some}
 use mathlib.Core.List.{List, [], ◌∷◌, ◌++◌}
-use Prim.Native.Nat.{ℕ, ◌+◌, ◌*◌, ◌%◌, ◌^◌}
+use Prim.Native.Nat.{ℕ, ◌<◌, ◌+◌, ◌*◌, ◌%◌, ◌^◌}
+use Rattle.std.specs.Prelude.{Result, Ok, Err, ⊤}
 use native.Mathlib.Omega.{arith}
 use lib.Dec.{eqb}
 use lib.ListN.{take, replicate}
@@ -25,12 +26,13 @@ use Rattle.paper.specs.Refusals as Refusals
 use Rattle.paper.specs.Shown.{verdict_of}
 use Rattle.paper.proofs.ClosedAttach as paper-attach
 use Rattle.paper.proofs.Newer as paper-newer
-use Rattle.correction.specs.Answer as Correcting
-use Rattle.correction.specs.declared.judge.Answer as Correct
-use Rattle.correction.specs.declared.judge.Answer.TheVariants.{Stored, TableNotValid, LengthWrong, VersionWrong, KindUnknown, LengthWrongForKind, ValueNotValid, NoSuchImsi, ChangeDiffers}
-use Rattle.dymosaw.specs.declared.serve.Served.{Served}
-use Rattle.dymosaw.specs.declared.serve.Served.TheVariants.{Refused, Answered}
-use Rattle.dymosaw.specs.Serve.{number_of, size_of, said_by, listed_by}
+use Rattle.correction.specs.Refusal as Correcting
+use Rattle.correction.specs.declared.refusal.Refusal as Correct
+use Rattle.correction.specs.declared.refusal.Refusal.TheVariants.{TableNotValid, LengthWrong, VersionWrong, KindUnknown, LengthWrongForKind, ValueNotValid, NoSuchImsi, ChangeDiffers}
+use Rattle.dymosaw.specs.declared.serve.Answered.{Answered}
+use Rattle.dymosaw.specs.declared.serve.Silent.{Silent}
+use Rattle.dymosaw.specs.declared.serve.Silent.TheVariants.{RequestSize, NotRequest, ShortBuffer, TableNotValid as InvalidTable, OwnNameNotValid}
+use Rattle.dymosaw.specs.Serve.{number_of_silent, number_of, size_of, said_by, listed_by}
 use Rattle.promises.specs.Calls.{ServeCall, RequestCall, served, SameServed, SameRequested}
 use Rattle.promises.specs.Promises.{AcceptingBytes, success, experimental, ServeNewerSame, RequestNewerSame, answer_of, ServeOnce, RequestOnce, CorrectOnce, EntryOnce, AttachSucceeds}
 use Rattle.promises.proofs.CallLaws.{for_c, bytes-seen}
@@ -45,11 +47,30 @@ same-verdict (Experimental c) (Experimental d) e = let q : d.0 ≡ c.0 = cc in a
 same-verdict (Base c) (Experimental d) e = let z : ◌≡◌ {A = ℕ} 0 1 = cc in absurd (omega arith)
 same-verdict (Experimental c) (Base d) e = let z : ◌≡◌ {A = ℕ} 0 1 = cc in absurd (omega arith)
 
-same_answer : (r q : Served) → number_of q ≡ number_of r → size_of q ≡ size_of r → said_by q ≡ said_by r → listed_by q ≡ listed_by r → q ≡ r
-same_answer (Refused n) (Refused k) number size said listed = ap Refused number
-same_answer (Refused n) (Answered v s j) number size said listed = let z : ◌≡◌ {A = ℕ} 0 1 = cc in absurd (omega arith)
-same_answer (Answered v s j) (Refused n) number size said listed = let z : ◌≡◌ {A = ℕ} 0 1 = cc in absurd (omega arith)
-same_answer (Answered v s j) (Answered w u k) number size said listed = rw (same-verdict v w said, size, listed)
+-- the refusal that has the number
+silent_numbered : ℕ → Silent
+silent_numbered n = cond (eqb n 1) RequestSize (cond (eqb n 2) NotRequest (cond (eqb n 3) ShortBuffer (cond (eqb n 4) InvalidTable OwnNameNotValid)))
+
+silent_back : (refusal : Silent) → silent_numbered (number_of_silent refusal) ≡ refusal
+unfolding silent_numbered
+silent_back RequestSize = refl
+silent_back NotRequest = refl
+silent_back ShortBuffer = refl
+silent_back InvalidTable = refl
+silent_back OwnNameNotValid = refl
+
+silent_above : (refusal : Silent) → 0 < number_of_silent refusal
+silent_above RequestSize = omega arith
+silent_above NotRequest = omega arith
+silent_above ShortBuffer = omega arith
+silent_above InvalidTable = omega arith
+silent_above OwnNameNotValid = omega arith
+
+same_answer : (r q : Result Answered Silent) → number_of q ≡ number_of r → size_of q ≡ size_of r → said_by q ≡ said_by r → listed_by q ≡ listed_by r → q ≡ r
+same_answer (Err x) (Err y) number size said listed = ap Err (sym (silent_back y) ∙ ap silent_numbered number ∙ silent_back x)
+same_answer (Err x) (Ok b) number size said listed = absurd (omega (arith, silent_above x, number))
+same_answer (Ok a) (Err y) number size said listed = absurd (omega (arith, silent_above y, number))
+same_answer (Ok a) (Ok b) number size said listed = ap Ok (rw (same-verdict a.verdict b.verdict said, size, listed))
 
 -- two calls that came to the same
 same-served : (c d : ServeCall) → (served d).left ≡ (served c).left → SameServed c d
@@ -111,22 +132,26 @@ request_once c d e = same_requested c d (ap outcome e)
 
 -- ---- corrections
 
--- the answer that has the number
-answer_numbered : ℕ → Correct.Answer
-answer_numbered n =
-    cond (eqb n 0) Stored (cond (eqb n 4) TableNotValid (cond (eqb n 11) LengthWrong (cond (eqb n 12) VersionWrong (cond (eqb n 13) KindUnknown (cond (eqb n 14) LengthWrongForKind (cond (eqb n 15) ValueNotValid (cond (eqb n 16) NoSuchImsi ChangeDiffers)))))))
+-- the refusal that has the number
+refusal_numbered : ℕ → Correct.Refusal
+refusal_numbered n =
+    cond (eqb n 4) TableNotValid (cond (eqb n 11) LengthWrong (cond (eqb n 12) VersionWrong (cond (eqb n 13) KindUnknown (cond (eqb n 14) LengthWrongForKind (cond (eqb n 15) ValueNotValid (cond (eqb n 16) NoSuchImsi ChangeDiffers))))))
 
-number_back : (a : Correct.Answer) → answer_numbered (Correcting.number_of a) ≡ a
-unfolding answer_numbered
-number_back Stored = refl
-number_back TableNotValid = refl
-number_back LengthWrong = refl
-number_back VersionWrong = refl
-number_back KindUnknown = refl
-number_back LengthWrongForKind = refl
-number_back ValueNotValid = refl
-number_back NoSuchImsi = refl
-number_back ChangeDiffers = refl
+-- the answer that has it
+answer_numbered : ℕ → Result ⊤ Correct.Refusal
+answer_numbered n = cond (eqb n 0) (Ok tt) (Err (refusal_numbered n))
+
+number_back : (r : Result ⊤ Correct.Refusal) → answer_numbered (Correcting.number_for r) ≡ r
+unfolding answer_numbered refusal_numbered
+number_back (Ok u) = refl
+number_back (Err TableNotValid) = refl
+number_back (Err LengthWrong) = refl
+number_back (Err VersionWrong) = refl
+number_back (Err KindUnknown) = refl
+number_back (Err LengthWrongForKind) = refl
+number_back (Err ValueNotValid) = refl
+number_back (Err NoSuchImsi) = refl
+number_back (Err ChangeDiffers) = refl
 
 -- two corrections of one table by one frame
 same-corrected : {t u f g : List ℕ} {x y : Corrected} → x ≡ corrected t f → y ≡ corrected u g → u ≡ t → g ≡ f → y ≡ x
@@ -158,7 +183,7 @@ attach_call =
     record {
       given = attach_lent;
       bytes = attach-bytes;
-      result = Answered (Base (record { 0 = 2001 })) 200 2;
+      result = Ok (record { verdict = Base (record { 0 = 2001 }); length = 200; listed = 2 });
       table = table_after;
       answer = attach_answer ++ replicate 4152 255;
       cancel = attach_cancel ++ replicate 4 255;

@@ -10,10 +10,11 @@ use lib.Dec.{ltb, eqb}
 use lib.ListN.{length, take, drop, replicate, drop_of_length-le}
 use lib.Seq.{length-take-le, drop_at}
 use borrow.Author.Tests.{lt-ltb, le-leb, lt-leb, leb-true}
+use Rattle.std.proofs.lemmas.Bool.{and_from, and_parts}
 use Rattle.wire.specs.Number.{num_at, Bytes}
 use Rattle.wire.specs.Stretch.{all_in}
 use Rattle.wire.specs.Put.{part, put}
-use Rattle.wire.proofs.ListLaws.{and-true-right, and-true_both, part-part, part-split}
+use Rattle.wire.proofs.ListLaws.{part-part, part-split}
 use Rattle.wire.proofs.NumberLaws.{bytes_drop}
 use Rattle.wire.proofs.PutLaws.{length-put, part-put, part-before}
 use Rattle.paper.specs.Avp.{has_v, has_m, head_size, padded, flags_of, length_of, vendor_of, framed, after, avp_of, vendor_field, as_received, flags_for, written, written_again, Alike, alike_of}
@@ -24,10 +25,10 @@ use Rattle.paper.proofs.AvpsLaws.{avps_empty, avps-more, avps-one}
 use Rattle.paper.proofs.WrittenLaws.{one-written_again, written_again_alike}
 use Rattle.avp.specs.declared.cursor.Avp.{Avp}
 use Rattle.avp.specs.declared.cursor.Step.TheVariants.{Item, End}
-use Rattle.avp.specs.declared.write.Written.TheVariants.{UpTo, NoRoom}
+use Rattle.std.specs.Prelude.{Ok}
 use Rattle.avp.specs.Found.{data_of}
 use Rattle.avp.specs.Step.{avp_at, step_at}
-use Rattle.avp.specs.Written.{Came, came_to, has_room, avp_written}
+use Rattle.avp.specs.Written.{Came, not_written, came_to, has_room, avp_written}
 use Rattle.avp.proofs.StepLaws.{data_at, end-place, item-avp, item-framed, item-next}
 use Rattle.avp.proofs.WriteLaws.{size-written}
 use Rattle.promises.specs.Calls.{ReadAvpCall, WriteAvpCall}
@@ -51,18 +52,18 @@ room_for w = has_room w.out w.at w.vendor w.code w.mandatory w.body
 
 inside : (w : WriteAvpCall) → room_for w ≡ true → w.at + length (bytes_of w) ≤ length w.out
 unfolding has_room
-inside w e = leb-true (w.at + length (bytes_of w)) (length w.out) (and-true-right (ltb (length w.body) 16777200) _ e)
+inside w e = leb-true (w.at + length (bytes_of w)) (length w.out) (and_parts (ltb (length w.body) 16777200) _ e).1
 
-stored : (w : WriteAvpCall) (to : ℕ) → w.result ≡ UpTo to → Stored w to
+stored : (w : WriteAvpCall) (to : ℕ) → w.result ≡ Ok to → Stored w to
 unfolding avp_written
 stored w to e = go (room_for w) refl (sym (ap (λ r. came_to r w.after) e) ∙ w.met)
   where
-    go : (b : Bool) → room_for w ≡ b → came_to (UpTo to) w.after ≡ cond b (came_to (UpTo (w.at + length (bytes_of w))) (put w.at (bytes_of w) w.out)) (came_to NoRoom w.out)
+    go : (b : Bool) → room_for w ≡ b → came_to (Ok to) w.after ≡ cond b (came_to (Ok (w.at + length (bytes_of w))) (put w.at (bytes_of w) w.out)) (came_to not_written w.out)
         → Stored w to
     go true h q =
-        let u : UpTo to ≡ UpTo (w.at + length (bytes_of w)) = ap (λ (c : Came). c.answer) q in
+        let u : Ok to ≡ Ok (w.at + length (bytes_of w)) = ap (λ (c : Came). c.answer) q in
         record { room = inside w h; next = cc; made = ap (λ (c : Came). c.out) q }
-    go false h q = let u : UpTo to ≡ NoRoom = ap (λ (c : Came). c.answer) q in let z : ◌≡◌ {A = ℕ} 0 1 = cc in absurd (omega arith)
+    go false h q = let u : Ok to ≡ not_written = ap (λ (c : Came). c.answer) q in let z : ◌≡◌ {A = ℕ} 0 1 = cc in absurd (omega arith)
 
 enough : (w : WriteAvpCall) → length w.body < 16777200 → w.at + (12 + length w.body + 3) ≤ length w.out → room_for w ≡ true
 unfolding has_room
@@ -70,7 +71,7 @@ enough w h k =
     let m = head_size-most (flags_for w.vendor w.mandatory) in
     let l = size-written w.vendor w.code w.mandatory w.body in
     let p = padded-most (head_size (flags_for w.vendor w.mandatory) + length w.body) in
-    and-true_both _ _ (lt-ltb _ _ h) (le-leb (w.at + length (bytes_of w)) (length w.out) (omega arith))
+    and_from _ _ (lt-ltb _ _ h) (le-leb (w.at + length (bytes_of w)) (length w.out) (omega arith))
 
 pub room_enough : RoomEnough
 unfolding avp_written
@@ -281,7 +282,7 @@ write_host =
       code = 264;
       mandatory = true;
       body = 0x6D ∷ 0x6D ∷ 0x65 ∷ 0x32 ∷ [];
-      result = UpTo 12;
+      result = Ok 12;
       after = written-host;
       met = refl;
     }

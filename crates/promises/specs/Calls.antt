@@ -1,21 +1,22 @@
 -- Calls of the public functions that met their contracts: what each was given, what it answered, what it left. `met` is word for word the function's
 -- `ensures` (proofs/Contracts.antt shows that). Assumes nothing.
-use Rattle.std.specs.Prelude.{◌≡◌, Bool, List, ℕ, ◌/◌, ◌%◌, ◌^◌}
+use Rattle.std.specs.Prelude.{◌≡◌, Bool, List, ℕ, ◌/◌, ◌%◌, ◌^◌, Result, ⊤}
 use Rattle.wire.specs.Number.{Bytes}
 use Rattle.paper.specs.Correction.{Corrected, corrected}
 use Rattle.paper.specs.Find.{origin_host}
 use Rattle.paper.specs.Outcome.{Lent, Outcome, outcome}
 use Rattle.paper.specs.Table.{valid}
 use Rattle.avp.specs.declared.cursor.Step.{Step}
-use Rattle.avp.specs.declared.write.Written.{Written}
+use Rattle.avp.specs.declared.write.NoRoom.{NoRoom}
 use Rattle.avp.specs.Step.{step_at}
 use Rattle.avp.specs.Written as Written
 use Rattle.avp.specs.Written.{avp_written}
 use Rattle.reader.specs.declared.message.Message.{Message}
 use Rattle.reader.specs.Message.{message_of}
-use Rattle.correction.specs.declared.judge.Answer.{Answer}
-use Rattle.correction.specs.Answer as Answered
-use Rattle.dymosaw.specs.declared.serve.Served.{Served}
+use Rattle.correction.specs.declared.refusal.Refusal.{Refusal}
+use Rattle.correction.specs.Refusal as Refusals
+use Rattle.dymosaw.specs.declared.serve.Answered as Serving
+use Rattle.dymosaw.specs.declared.serve.Silent.{Silent}
 use Rattle.dymosaw.specs.Entry as Entry
 use Rattle.dymosaw.specs.Serve as Serve
 use Rattle.dymosaw.specs.Serve.{Is}
@@ -26,7 +27,7 @@ use Rattle.dymosaw.specs.Serve.{Is}
 pub record ServeCall : Type 0 where
   pub given : Lent
   pub bytes : Bytes given.request
-  pub result : Served
+  pub result : Result Serving.Answered Silent
   pub table : List ℕ
   pub answer : List ℕ
   pub cancel : List ℕ
@@ -46,9 +47,9 @@ pub record RequestCall : Type 0 where
 pub record CorrectCall : Type 0 where
   pub table : List ℕ
   pub frame : List ℕ
-  pub result : Answer
+  pub result : Result ⊤ Refusal
   pub after : List ℕ
-  pub met : Answered.came_to result after ≡ corrected table frame
+  pub met : Refusals.came_to result after ≡ corrected table frame
 
 -- `dymosaw_correct`, the same for C
 pub record EntryCall : Type 0 where
@@ -94,7 +95,7 @@ pub record WriteAvpCall : Type 0 where
   pub code : ℕ
   pub mandatory : Bool
   pub body : List ℕ
-  pub result : Written
+  pub result : Result ℕ NoRoom
   pub after : List ℕ
   pub met : Written.came_to result after ≡ avp_written out at vendor code mandatory body
 
@@ -119,7 +120,7 @@ abbrev pub served : ServeCall → Call
 served c = record { lent = c.given; bytes = c.bytes; left = Serve.came_to c.result c.table c.answer c.cancel; met = c.met }
 
 abbrev pub righted : CorrectCall → Correction
-righted c = record { table = c.table; frame = c.frame; left = Answered.came_to c.result c.after; met = c.met }
+righted c = record { table = c.table; frame = c.frame; left = Refusals.came_to c.result c.after; met = c.met }
 
 abbrev pub righted_for_c : EntryCall → Correction
 righted_for_c c = record { table = c.table; frame = c.frame; left = Entry.came_to c.result c.after; met = c.met }

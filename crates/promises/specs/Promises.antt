@@ -1,6 +1,6 @@
 -- The promises, over calls that met their contracts (Calls.antt). Each names what was lent and what was left; none mentions how a request is carried out.
 -- docs/PROMISES.md has them in plain English, with what each does not cover. Assumes nothing.
-use Rattle.std.specs.Prelude.{◌≡◌, ◌↔◌, ◌≢◌, true, false, cond, List, [], ◌∷◌, ◌++◌, ℕ, ◌+◌, ◌-◌, ◌/◌, ◌%◌, ◌^◌, ◌≤◌, ◌<◌, length, take, drop, get_or, replicate}
+use Rattle.std.specs.Prelude.{◌≡◌, ◌↔◌, ◌≢◌, true, false, cond, List, [], ◌∷◌, ◌++◌, ℕ, ◌+◌, ◌-◌, ◌/◌, ◌%◌, ◌^◌, ◌≤◌, ◌<◌, length, take, drop, get_or, replicate, Ok}
 use Rattle.std.proofs.Math.Option.{none, some}
 use Rattle.wire.specs.Number.{num_at}
 use Rattle.wire.specs.Put.{part}
@@ -28,8 +28,6 @@ use Rattle.paper.specs.Untouched.{OnlyItsRecord, NoRecord, NoByte}
 use Rattle.paper.specs.Widened.{OneAvp, Inserted, Clear}
 use Rattle.avp.specs.declared.cursor.Avp.{Avp as AvpRead}
 use Rattle.avp.specs.declared.cursor.Step.TheVariants.{Item}
-use Rattle.avp.specs.declared.write.Written.TheVariants.{UpTo}
-use Rattle.dymosaw.specs.declared.serve.Served.TheVariants.{Answered}
 use Rattle.dymosaw.specs.Serve.{said_by}
 use Rattle.promises.specs.Calls.{ServeCall, RequestCall, CorrectCall, EntryCall, ReadCall, ValidCall, HostCall, ReadAvpCall, WriteAvpCall, Call, Correction, SeenByC, SameServed, SameRequested, SameCorrected, SameEntered}
 use Rattle.promises.specs.Rewritten.{Again, Keeps, Rewritten, SameAvps}
@@ -227,7 +225,7 @@ AvpsAgain = (s out after : List ℕ) (n : ℕ) → Rewritten s n after 0 0 out �
 
 -- and an AVP is written where there is room for the longest header, the data and the most padding
 abbrev pub RoomEnough : Type 0
-RoomEnough = (w : WriteAvpCall) → length w.body < 16777200 → w.at + (12 + length w.body + 3) ≤ length w.out → (to : ℕ) × (w.result ≡ UpTo to)
+RoomEnough = (w : WriteAvpCall) → length w.body < 16777200 → w.at + (12 + length w.body + 3) ≤ length w.out → (to : ℕ) × (w.result ≡ Ok to)
 
 -- ---- 8. Nothing else is touched
 
@@ -262,7 +260,7 @@ CorrectionRecordIs =
 
 -- the attach of Attach.antt: whoever makes that call gets these bytes
 pub record Attached (c : ServeCall) : Type 0 where
-  pub result : c.result ≡ Answered (Base (record { 0 = 2001 })) 200 2
+  pub result : c.result ≡ Ok (record { verdict = Base (record { 0 = 2001 }); length = 200; listed = 2 })
   pub table : c.table ≡ table_after
   pub answer : c.answer ≡ attach_answer ++ replicate 4152 255
   pub cancel : c.cancel ≡ attach_cancel ++ replicate 4 255

@@ -1,11 +1,10 @@
 -- AVPs read and written again, by calls of `read_avp` and `write_avp`: one AVP, and the AVPs of a stretch from its start to its end.
 -- Assumes nothing.
-use Rattle.std.specs.Prelude.{◌≡◌, true, not, List, ℕ, eqb}
+use Rattle.std.specs.Prelude.{◌≡◌, true, not, List, ℕ, eqb, Ok}
 use Rattle.paper.specs.Avp.{has_v, has_m}
 use Rattle.paper.specs.Reader.{avps, unbroken, alikes}
 use Rattle.avp.specs.declared.cursor.Avp.{Avp}
 use Rattle.avp.specs.declared.cursor.Step.TheVariants.{Item, End}
-use Rattle.avp.specs.declared.write.Written.TheVariants.{UpTo}
 use Rattle.avp.specs.Found.{data_of}
 use Rattle.promises.specs.Calls.{ReadAvpCall, WriteAvpCall}
 
@@ -16,7 +15,7 @@ pub record Again (r : ReadAvpCall) (a : Avp) (next : ℕ) (w : WriteAvpCall) (to
   pub code : w.code ≡ a.code
   pub mandatory : w.mandatory ≡ has_m a.flags
   pub body : w.body ≡ data_of r.stretch a
-  pub wrote : w.result ≡ UpTo to
+  pub wrote : w.result ≡ Ok to
 
 -- "An AVP written again keeps key (V unless vendor 0), M and data": of the AVP `a` of the bytes `s`, the AVP `b` of the bytes `t`
 pub record Keeps (s : List ℕ) (a : Avp) (t : List ℕ) (b : Avp) : Type 0 where

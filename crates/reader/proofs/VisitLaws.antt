@@ -1,6 +1,6 @@
 -- The cases of the visit: of a stretch by the step at a place, of an AVP by its kind.
 -- Assumes nothing.
-use mathlib.Core.Path.{◌≡◌, sym, ap, ap₂, ◌∙◌}
+use mathlib.Core.Path.{◌≡◌, refl, sym, ap, ap₂, ◌∙◌}
 use mathlib.Core.Bool.{Bool, true, cond}
 use mathlib.Core.List.{List}
 use Prim.Native.Nat.{ℕ, ◌+◌, ◌-◌, ◌≤◌}
@@ -9,7 +9,9 @@ use native.Mathlib.Omega.{arith}
 use lib.ListN.{length, drop, length-drop}
 use Rattle.dictionary.specs.declared.Kind.{Kind}
 use Rattle.dictionary.specs.declared.Kind.TheVariants.{Group, Unknown}
+use Rattle.dictionary.specs.declared.Key.{Key}
 use Rattle.dictionary.specs.Kinds.{size_right}
+use Rattle.dictionary.specs.Rows as Rows
 use Rattle.paper.specs.declared.Visit.{Visit}
 use Rattle.paper.specs.declared.Visit.TheVariants.{Clean, Fault, Unsupported}
 use Rattle.paper.specs.Avp.{has_m, flags_of, body_of, avp_of}
@@ -21,10 +23,19 @@ use Rattle.avp.specs.declared.cursor.Avp.{Avp}
 use Rattle.avp.specs.declared.cursor.Cursor.{Cursor}
 use Rattle.avp.specs.declared.cursor.Step.{Step}
 use Rattle.avp.specs.declared.cursor.Step.TheVariants.{Item, End, Bad}
-use Rattle.avp.specs.Step.{avp_at, step_at}
+use Rattle.avp.specs.Step.{avp_at, key_at, step_at}
 use Rattle.avp.specs.Found.{data_of}
 use Rattle.avp.proofs.StepLaws.{after_step, avps-after, bad_place, bad_inside, item-avp, item-place, item-framed, item-inside, data_at}
 use Rattle.reader.specs.Visit.{all_seen, told_of, told_avp, ReadFrom}
+
+-- ---- what is told of two stretches in a row
+
+-- an unknown AVP with M is told where no fault stands behind it
+pub join-kept : {at to : ℕ} (w : Visit) → ((code at' to' : ℕ) → w ≡ Fault code at' to' → ⊥) → Unsupported at to ≡ join (Unsupported at to) w
+unfolding join
+join-kept (Fault code at' to') n = absurd (n code at' to' refl)
+join-kept (Unsupported at' to') n = refl
+join-kept Clean n = refl
 
 -- ---- a stretch, by the step at a place
 
@@ -71,6 +82,10 @@ module _ (kind : ℕ → ℕ → Kind) (left base : ℕ) (s : List ℕ) where
       (i ∙ ap (join before) (after_step_lem at (Item a next) e ∙ told_then _ _) ∙ sym (join_assoc before (told_avp kind left base s a.at) (told_from next.at)))
 
 -- ---- an AVP, by its kind
+
+-- a lookup by its key
+pub kind-looked : (a : Avp) {key : Key} {k : Kind} → key ≡ key_at a → k ≡ Rows.kind_of key.vendor key.code → Rows.kind_of a.vendor a.code ≡ k
+kind-looked a e l = sym (l ∙ ap (λ (x : Key). Rows.kind_of x.vendor x.code) e)
 
 module _ (kind : ℕ → ℕ → Kind) (left base : ℕ) (s : List ℕ) (a : Avp) (r : ReadFrom s a) where
   -- the AVP that the paper speaks of

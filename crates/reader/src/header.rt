@@ -1,12 +1,11 @@
 // The header of a message (RFC 6733 section 3). Bytes that a short message lacks read as 0.
-ghost use Rattle.std.specs.Prelude.{◌≡◌, ◌≤◌};
-ghost use Rattle.wire.specs.Number.{num_at};
+ghost use Rattle.std.specs.Prelude.{◌≡◌};
 ghost use Rattle.reader.specs.Header.{header_of};
 
 use paper::layout::MESSAGE_HEADER;
-use wire::number::{byte_or_zero, get_cut, get_u24, get_u32};
+use wire::number::{U24, get};
 
-#[derive(Clone, Copy)]
+#[derive(Clone, Copy, Debug, PartialEq, Eq)]
 pub struct Header {
     pub version: u8,
     pub length: u32,
@@ -17,45 +16,32 @@ pub struct Header {
     pub end_to_end: u32,
 }
 
-// The number that `width` bytes of `m` from `at` are, wherever `m` ends.
-fn field(m: &[u8], at: usize, width: usize) -> u32
-    requires { width ≤ 4 }
-    ensures { result ≡ num_at width m.now at }
-{
-    if m.len() < at {
-        return 0;
-    }
-    get_cut(m, at, width) as u32
-}
-
-fn read_cut_header(m: &[u8]) -> Header
+// The header that these 20 bytes are. Out of line: put into both branches of `read_header` it takes 77 instructions where this takes 64.
+#[inline(never)]
+fn whole_header(m: &[u8; MESSAGE_HEADER]) -> Header
     ensures { result ≡ header_of m.now }
 {
     Header {
-        version: byte_or_zero(m, 0),
-        length: field(m, 1, 3),
-        flags: byte_or_zero(m, 4),
-        command: field(m, 5, 3),
-        application: field(m, 8, 4),
-        hop_by_hop: field(m, 12, 4),
-        end_to_end: field(m, 16, 4),
+        version: m[0],
+        length: get::<U24>(m, 1).0,
+        flags: m[4],
+        command: get::<U24>(m, 5).0,
+        application: get::<u32>(m, 8),
+        hop_by_hop: get::<u32>(m, 12),
+        end_to_end: get::<u32>(m, 16),
     }
 }
 
-// Where the header is there whole, no byte is tested for being there.
+// The header of `m`: where it is there whole, no byte is tested for being there; where it is cut short, zeros stand for what lacks.
 pub fn read_header(m: &[u8]) -> Header
     ensures { result ≡ header_of m.now }
 {
-    if m.len() < MESSAGE_HEADER {
-        return read_cut_header(m);
-    }
-    Header {
-        version: m[0],
-        length: get_u24(m, 1),
-        flags: m[4],
-        command: get_u24(m, 5),
-        application: get_u32(m, 8),
-        hop_by_hop: get_u32(m, 12),
-        end_to_end: get_u32(m, 16),
+    match m.first_chunk() {
+        Some(whole) => whole_header(whole),
+        None => {
+            let mut filled = [0; MESSAGE_HEADER];
+            filled[..m.len()].copy_from_slice(m);
+            whole_header(&filled)
+        }
     }
 }

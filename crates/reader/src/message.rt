@@ -4,23 +4,20 @@ ghost use Rattle.reader.specs.Message.{message_of};
 
 use crate::header::{Header, read_header};
 use crate::visit::visit;
-use dictionary::{all_keys, all_kinds};
 use paper::Visit;
 
-#[derive(Clone, Copy)]
+#[derive(Clone, Copy, Debug, PartialEq, Eq)]
 pub struct Message {
     pub header: Header,
     pub visit: Visit,
 }
 
-// Reads any bytes as a message, a request or an answer. The dictionary's arrays are made here and lent down.
+// Reads any bytes as a message, a request or an answer.
 pub fn read_message(m: &[u8]) -> Message
     ensures { result ≡ message_of m.now }
 {
-    let keys = all_keys();
-    let kinds = all_kinds();
     Message {
         header: read_header(m),
-        visit: visit(&keys, &kinds, m),
+        visit: visit(m),
     }
 }

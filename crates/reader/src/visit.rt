@@ -1,8 +1,8 @@
 // The visit: "a list of AVPs holds groups, and a group holds a list again". Reading a list calls reading one AVP, which calls reading a list;
 // the list goes by a loop over the cursor, so that depth bounds the stack and not the number of AVPs.
-// The dictionary is lent as two arrays. Places count from the start of the message, at `base` of which the stretch `s` stands.
+// Places count from the start of the message, at `base` of which the stretch `s` stands.
 ghost use Rattle.std.specs.Prelude.{◌≡◌, cond, ◌+◌, ◌<◌, ◌^◌, length};
-ghost use Rattle.dictionary.specs.Rows.{kind_in, Lent};
+ghost use Rattle.dictionary.specs.Rows.{kind_of};
 ghost use Rattle.paper.specs.declared.Visit.TheVariants.{Clean, Fault, Unsupported};
 ghost use Rattle.paper.specs.Reader.{join};
 ghost use Rattle.reader.specs.Visit.{told_of, told_avp, ReadFrom};
@@ -17,14 +17,10 @@ use paper::layout::{MESSAGE_HEADER, MOST_GROUPS};
 fn joined(a: Visit, b: Visit) -> Visit
     ensures { result ≡ join a b }
 {
-    match a {
-        Visit::Clean => b,
-        Visit::Fault { code, at, end } => Visit::Fault { code, at, end },
-        Visit::Unsupported { at, end } => match b {
-            Visit::Clean => Visit::Unsupported { at, end },
-            Visit::Fault { code, at, end } => Visit::Fault { code, at, end },
-            Visit::Unsupported { at: _, end: _ } => Visit::Unsupported { at, end },
-        },
+    match (a, b) {
+        (Visit::Clean, _) => b,
+        (Visit::Unsupported { .. }, Visit::Fault { .. }) => b,
+        _ => a,
     }
 }
 
@@ -53,11 +49,11 @@ fn unknown(mandatory: bool, at: usize, end: usize) -> Visit
     }
 }
 
-// Reads the AVPs of `s`; `left` groups may still be entered, one in another.
+// Reads the AVPs of `s`; `left` groups may still be entered, one in another. By the cursor: `told_of` says where `s` breaks off, and avp's iterator only ends there.
 #[cycle(visit_avp_visit_list)]
-pub fn visit_list(keys: &[u64], kinds: &[u8], s: &[u8], base: usize, left: usize) -> Visit
-    requires { Lent keys.now kinds.now × (base + length s.now < 2 ^ 64) }
-    ensures { result ≡ told_of (kind_in keys.now kinds.now) left base s.now }
+pub fn visit_list(s: &[u8], base: usize, left: usize) -> Visit
+    requires { base + length s.now < 2 ^ 64 }
+    ensures { result ≡ told_of kind_of left base s.now }
 {
     let mut told = Visit::Clean;
     let mut c = Cursor::new();
@@ -73,7 +69,7 @@ pub fn visit_list(keys: &[u64], kinds: &[u8], s: &[u8], base: usize, left: usize
                 },
             ),
             Step::Item { avp, next } => {
-                told = joined(told, visit_avp(keys, kinds, s, avp, base, left));
+                told = joined(told, visit_avp(s, avp, base, left));
                 c = next;
             }
         }
@@ -82,17 +78,16 @@ pub fn visit_list(keys: &[u64], kinds: &[u8], s: &[u8], base: usize, left: usize
 
 // Reads one AVP of `s`, and what is inside it where it is a group that is entered.
 #[cycle(visit_avp_visit_list)]
-fn visit_avp(keys: &[u64], kinds: &[u8], s: &[u8], a: Avp, base: usize, left: usize) -> Visit
-    requires { Lent keys.now kinds.now × (base + length s.now < 2 ^ 64) × ReadFrom s.now a }
-    ensures { result ≡ told_avp (kind_in keys.now kinds.now) left base s.now a.at }
+fn visit_avp(s: &[u8], a: Avp, base: usize, left: usize) -> Visit
+    requires { (base + length s.now < 2 ^ 64) × ReadFrom s.now a }
+    ensures { result ≡ told_avp kind_of left base s.now a.at }
 {
     let at = base + a.at;
     let end = base + s.len();
     let size = a.end - a.start;
-    match lookup(keys, kinds, a.vendor, a.code) {
+    match lookup(a.key()) {
         Kind::Unknown => unknown(has_m(a.flags), at, end),
-        Kind::Any => Visit::Clean,
-        Kind::Closed => Visit::Clean,
+        Kind::Any | Kind::Closed => Visit::Clean,
         Kind::Four => sized(size == 4, at, end),
         Kind::Eight => sized(size == 8, at, end),
         Kind::Group => {
@@ -103,26 +98,18 @@ fn visit_avp(keys: &[u64], kinds: &[u8], s: &[u8], a: Avp, base: usize, left: us
                     end,
                 };
             }
-            let from = a.start;
-            let to = a.end;
-            visit_list(keys, kinds, &s[from..to], base + from, left - 1)
+            let inside = a.data(s);
+            visit_list(inside, base + a.start, left - 1)
         }
     }
 }
 
 // The visit of a message. A message without a whole header holds no AVP.
-pub fn visit(keys: &[u64], kinds: &[u8], m: &[u8]) -> Visit
-    requires { Lent keys.now kinds.now }
-    ensures { result ≡ visit_of (kind_in keys.now kinds.now) m.now }
+pub fn visit(m: &[u8]) -> Visit
+    ensures { result ≡ visit_of kind_of m.now }
 {
     if m.len() < MESSAGE_HEADER {
         return Visit::Clean;
     }
-    visit_list(
-        keys,
-        kinds,
-        &m[MESSAGE_HEADER..],
-        MESSAGE_HEADER,
-        MOST_GROUPS,
-    )
+    visit_list(&m[MESSAGE_HEADER..], MESSAGE_HEADER, MOST_GROUPS)
 }

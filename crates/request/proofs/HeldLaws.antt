@@ -1,36 +1,49 @@
--- What a request holds, where it stands: its AVPs, those of a key that the command uses, and those inside Terminal-Information.
+-- What a request holds: the AVPs that its command uses, and those inside Terminal-Information.
 -- Assumes nothing.
 use mathlib.Core.Path.{◌≡◌, refl, sym, ap, ◌∙◌}
 use mathlib.Core.Bool.{Bool, true, false, cond}
 use mathlib.Core.Option.{Option, none}
 use mathlib.Core.List.{List, []}
 use Prim.Native.Nat.{ℕ, ◌≤◌}
-use native.Mathlib.Omega.{arith}
-use lib.ListN.{length}
-use Rattle.wire.specs.Number.{num_at}
+use lib.ListN.{length, drop}
+use Rattle.std.specs.Prelude as Std
+use Rattle.std.specs.Prelude.{Some, None}
 use Rattle.paper.specs.Reader.{Placed, Avps, whole, avps}
-use Rattle.paper.specs.Find.{first_second, body_found}
-use Rattle.paper.specs.Profile.{Key, terminal_information}
-use Rattle.paper.specs.Request.{find, has, used, used_in, avps_of, inside, terminal, if_used, is_there}
-use Rattle.paper.specs.ShownIn.{Standing}
-use Rattle.paper.proofs.StandsIn.{stretch-rest}
-use Rattle.paper.proofs.ShownLaws.{used-standing}
-use Rattle.request.specs.declared.place.Span.{Span}
-use Rattle.request.specs.declared.place.Sought.{Sought}
-use Rattle.request.specs.declared.place.Sought.TheVariants.{Nothing}
+use Rattle.paper.specs.Profile.{Key, command_of, terminal_information, imei}
+use Rattle.paper.specs.Shown.{stretch}
+use Rattle.paper.specs.Request.{find, has, used, used_in, avps_of, command_code, inside, terminal, if_used, imei_of}
+use Rattle.paper.proofs.ShownLaws.{none_standing, top-standing, imei-standing}
+use Rattle.request.specs.declared.place.Spot.{Spot}
 use Rattle.request.specs.declared.profile.Command.{Command}
-use Rattle.request.specs.Place.{sought_of, is_at, span_of, InMessage, bytes_in, avps_in}
+use Rattle.request.specs.Place.{sought_of, Finds}
 use Rattle.request.specs.Profile.{row_of}
-use Rattle.request.specs.Held.{Ready, Frames}
-use Rattle.request.specs.Accepted.{SpanOf}
-use Rattle.request.proofs.PlaceLaws.{data_inside, data_bytes, data_avps, there-at}
+use Rattle.request.proofs.PlaceLaws.{finds_lem, inside-spot, inside_nothing}
 
--- the AVPs behind the header
-pub all_frames : (m : List ℕ) → 20 ≤ length m → Frames m (avps_of m) (record { at = 20; end = length m })
-unfolding avps_of
-all_frames m h = record { inside = record { order = h; fits = omega arith }; same = ap (avps 20) (stretch-rest 20 m) }
+module _ (m : List ℕ) (key : Key) where
+  -- the AVPs behind the header are those of the list that starts there
+  pub found_top : 20 ≤ length m → {base : ℕ} {s : List ℕ} → base ≡ 20 → s ≡ drop 20 m → {f : Std.Option Spot} → f ≡ sought_of (find key (avps base s)) → Finds m (find key (avps_of m)) f
+  unfolding avps_of
+  found_top long b e q = finds_lem m (find key (avps_of m)) (top-standing m long key) (q ∙ rw (b, e))
 
-module _ (m : List ℕ) (long : 20 ≤ length m) where
+  -- ---- what the command uses
+
+  pub uses-own : {c d : Std.Option Command} → row_of c ≡ command_of (command_code m) → c ≡ d → {b : Bool} → b ≡ has key (used_in (row_of d)) → b ≡ has key (used m)
+  uses-own own e u = u ∙ ap (λ x. has key (used_in x)) (ap row_of (sym e) ∙ own)
+
+  pub uses_nothing : {c : Std.Option Command} → row_of c ≡ command_of (command_code m) → c ≡ None → false ≡ has key (used m)
+  unfolding used_in has
+  uses_nothing own e = uses-own own e refl
+
+  module _ {b : Bool} (u : b ≡ has key (used m)) where
+    pub found-used : b ≡ true → {f : Std.Option Spot} → Finds m (find key (avps_of m)) f → Finds m (if_used key m) f
+    found-used t d = rw (sym u ∙ t) d
+
+    pub found_unused : b ≡ false → Finds m (if_used key m) None
+    found_unused t = rw (sym u ∙ t) (finds_lem m none (none_standing m) refl)
+
+-- ---- inside Terminal-Information
+
+module _ (m : List ℕ) where
   inside_chosen : (b : Bool) (o : Option Placed) → inside (cond b o none) ≡ cond b (inside o) whole
   inside_chosen true o = refl
   inside_chosen false o = refl
@@ -39,49 +52,11 @@ module _ (m : List ℕ) (long : 20 ≤ length m) where
   unfolding terminal
   terminal-inside = inside_chosen (has terminal_information (used m)) (find terminal_information (avps_of m))
 
-  pub terminal_frames : {f : Sought} → f ≡ sought_of (if_used terminal_information m) → {s : Span} → s ≡ span_of f → Frames m (terminal m) s
-  terminal_frames e q =
-      let o = if_used terminal_information m in
-      let t = used-standing m long terminal_information in
-      rw (q, e) (record { inside = data_inside m o t; same = data_avps m o t ∙ terminal-inside })
+  pub terminal-spot : {s : Spot} → Finds m (if_used terminal_information m) (Some s) → {x : List ℕ} → x ≡ stretch m s.from s.to → avps s.from x ≡ terminal m
+  terminal-spot d q = inside-spot (if_used terminal_information m) d.sought (q ∙ d.value) ∙ terminal-inside
 
--- ---- the data of what was found
+  pub terminal_nothing : {f : Std.Option Spot} → Finds m (if_used terminal_information m) f → ((s : Spot) → f ≡ Some s → ⊥) → avps 0 [] ≡ terminal m
+  terminal_nothing d n = inside_nothing (if_used terminal_information m) d.sought n ∙ terminal-inside
 
-module _ (m : List ℕ) (o : Option Placed) (t : Standing m o) {f : Sought} (e : f ≡ sought_of o) where
-  pub sought_inside : InMessage m (span_of f)
-  sought_inside = rw e (data_inside m o t)
-
-  pub sought_bytes : bytes_in m (span_of f) ≡ body_found o
-  sought_bytes = rw e (data_bytes m o t)
-
-  pub sought_number : {n : ℕ} → n ≡ num_at 4 (bytes_in m (span_of f)) 0 → n ≡ num_at 4 (body_found o) 0
-  sought_number q = q ∙ ap (λ (x : List ℕ). num_at 4 x 0) sought_bytes
-
-  pub sought_there : {b : Bool} → b ≡ is_at f → b ≡ is_there o
-  sought_there q = q ∙ ap is_at e ∙ there-at o
-
-  pub sought_span : {s : Span} → s ≡ span_of f → SpanOf m (body_found o) s
-  sought_span q = rw q (record { inside = sought_inside; same = sought_bytes })
-
--- ---- searches
-
--- a search in a list that stands at a stretch
-pub found_framed : (m : List ℕ) (key : Key) {l : Avps} {s : Span} → Frames m l s → {f : Sought} → f ≡ sought_of (find key (avps_in m s)) → f ≡ sought_of (find key l)
-found_framed m key a e = e ∙ ap (λ (x : Avps). sought_of (find key x)) a.same
-
-pub there-found : (o : Option Placed) {f : Sought} → f ≡ sought_of o → {b : Bool} → b ≡ is_at f → is_there o ≡ b
-there-found o e q = sym (q ∙ ap is_at e ∙ there-at o)
-
-pub second-framed : (m : List ℕ) (keys : List ℕ) {l : Avps} {s : Span} → Frames m l s → {f : Sought} → f ≡ sought_of (first_second keys [] (avps_in m s))
-    → f ≡ sought_of (first_second keys [] l)
-second-framed m keys a e = e ∙ ap (λ (x : Avps). sought_of (first_second keys [] x)) a.same
-
-module _ (m : List ℕ) {c : Command} (r : Ready m c) (key : Key) {b : Bool} (u : b ≡ has key (used_in (row_of c))) where
-  used-own : b ≡ has key (used m)
-  used-own = u ∙ ap (λ x. has key (used_in x)) r.own
-
-  pub found-used : b ≡ true → {f : Sought} → f ≡ sought_of (find key (avps_of m)) → f ≡ sought_of (if_used key m)
-  found-used t e = e ∙ rw (sym used-own ∙ t)
-
-  pub found_unused : b ≡ false → Nothing ≡ sought_of (if_used key m)
-  found_unused t = rw (sym used-own ∙ t)
+  pub found_imei : 20 ≤ length m → {l : Avps} → l ≡ terminal m → {f : Std.Option Spot} → f ≡ sought_of (find imei l) → Finds m (imei_of m) f
+  found_imei long e q = finds_lem m (imei_of m) (imei-standing m long) (q ∙ ap (λ (l : Avps). sought_of (find imei l)) e)

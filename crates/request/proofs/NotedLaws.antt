@@ -1,51 +1,54 @@
--- What was noted of a request: its places are those of its own AVPs, and where no noted key was met twice no command's was.
+-- What is noted of a request: its command, and that where no noted key was met twice no command's was.
 -- Assumes nothing.
 use mathlib.Core.Path.{◌≡◌, refl, sym, ap, ◌∙◌}
 use mathlib.Core.Bool.{Bool, true, false, cond, ◌&&◌, ◌||◌, false≢true}
-use mathlib.Core.Option.{none, some}
+use mathlib.Core.Option.{Option, none, some}
 use mathlib.Core.List.{List, [], ◌∷◌, map}
-use Prim.Native.Nat.{ℕ, ◌≤◌}
-use native.Mathlib.Omega.{arith}
-use lib.ListN.{length}
+use Prim.Native.Nat.{ℕ}
+use lib.ListN.{drop}
 use lib.Dec.{eqb}
 use borrow.Author.Tests.{eqb-true}
+use Rattle.std.specs.Prelude as Std
+use Rattle.std.specs.Prelude.{Some, None}
 use Rattle.dictionary.specs.Rows.{key_of}
-use Rattle.paper.specs.Reader.{Avps, whole, broken, more, avps}
+use Rattle.paper.specs.Reader.{Placed, Avps, whole, broken, more, avps}
 use Rattle.paper.specs.Find.{member, first_second}
+use Rattle.paper.specs.Profile as Paper
 use Rattle.paper.specs.Profile.{Key, command_of, commands, command_in}
-use Rattle.paper.specs.Request.{find, avps_of, key_number, used, used_in}
-use Rattle.avp.specs.Found.{found_at, Noted}
+use Rattle.paper.specs.Request.{avps_of, command_code, is_there, key_number, used, used_in}
+use Rattle.reader.specs.declared.header.Header.{Header}
+use Rattle.reader.specs.Header.{header_of}
+use Rattle.avp.specs.Found.{found_at, number}
 use Rattle.avp.proofs.FindLaws.{no_second-placed}
-use Rattle.request.specs.declared.place.Span.{Span}
-use Rattle.request.specs.declared.place.Sought.{Sought}
-use Rattle.request.specs.declared.place.Sought.TheVariants.{Nothing}
 use Rattle.request.specs.declared.profile.Command.{Command}
-use Rattle.request.specs.declared.profile.Command.TheVariants.{Ulr, Pur, Nor, Other}
-use Rattle.request.specs.Place.{sought_of, bytes_in, avps_in}
-use Rattle.request.specs.Profile.{row_of, noted_keys}
-use Rattle.request.specs.Held.{Ready}
-use Rattle.request.proofs.HeldLaws.{all_frames}
+use Rattle.request.specs.declared.profile.Command.TheVariants.{Ulr, Pur, Nor}
+use Rattle.request.specs.declared.profile.TheConstants.{NOTED_KEYS}
+use Rattle.request.specs.Held.{second_noted}
+use Rattle.request.specs.Place.{sought_of}
+use Rattle.request.specs.Profile.{row_of}
 
--- ---- the walk, from the stretch to the message
+-- ---- its command
 
--- all that stands behind the header
-abbrev top : List ℕ → Span
-top m = record { at = 20; end = length m }
+pub command-read : (m : List ℕ) {h : Header} → h ≡ header_of m → h.command ≡ command_code m
+unfolding header_of
+command-read m e = ap (λ (h : Header). h.command) e
 
-pub noted_same : {s r keys ks places : List ℕ} → s ≡ r → keys ≡ ks → Noted r ks places → Noted s keys places
-noted_same e q n = rw (e, q) n
+pub own-command : (m : List ℕ) {h : Header} → h ≡ header_of m → {c : Option Paper.Command} → c ≡ command_of h.command → c ≡ command_of (command_code m)
+own-command m e q = q ∙ ap command_of (command-read m e)
 
-module _ (m : List ℕ) (long : 20 ≤ length m) where
-  pub once_top : {s keys : List ℕ} → s ≡ bytes_in m (top m) → keys ≡ noted_keys → first_second keys [] (avps 0 s) ≡ none → first_second noted_keys [] (avps_of m) ≡ none
-  once_top {s} {keys} e q n =
-      sym
-      (ap (λ (l : Avps). first_second noted_keys [] l) (all_frames m long).same)
-      ∙ ap (λ (x : List ℕ). first_second noted_keys [] (avps 20 x)) (sym e)
-      ∙ ap (λ (x : List ℕ). first_second x [] (avps 20 s)) (sym q)
-      ∙ no_second-placed 20 s keys (sym (ap (found_at s) n))
+-- ---- no key twice
 
-  pub found-top : (key : Key) {f : Sought} → f ≡ sought_of (find key (avps_in m (top m))) → f ≡ sought_of (find key (avps_of m))
-  found-top key e = e ∙ ap (λ (l : Avps). sought_of (find key l)) (all_frames m long).same
+-- the numbers of the noted keys
+abbrev noted : List ℕ
+noted = map number NOTED_KEYS
+
+-- the walk, from the bytes behind the header to the message
+pub once_top : (m : List ℕ) {s : List ℕ} → s ≡ drop 20 m → first_second noted [] (avps 0 s) ≡ none → second_noted m ≡ false
+unfolding avps_of
+once_top m {s} e n =
+    ap is_there
+    (ap (λ (x : List ℕ). first_second noted [] (avps 20 x)) (sym e)
+    ∙ no_second-placed 20 s noted (sym (ap (found_at s) n)))
 
 -- ---- fewer keys, no second either
 
@@ -86,7 +89,7 @@ among_both met seen x f k h = go (eqb k x) h
     go false t = f k t
 
 no_some : {A : Type 0} {p : A} → some p ≡ none → ⊥
-no_some e = let z : ◌≡◌ {A = ℕ} 0 1 = cc in absurd (omega arith)
+no_some e = cc
 
 second_fewer : (keys wide : List ℕ) → Among keys wide → (l : Avps) (met seen : List ℕ) → Among met seen → first_second wide seen l ≡ none → first_second keys met l ≡ none
 unfolding first_second
@@ -110,14 +113,22 @@ second_fewer keys wide f (more p rest) met seen g e =
     go false false n t kb kw kn kt again e = again met seen g e
 
 -- the keys of a command are among the noted ones
-used-within : (c : Command) → within (map key_number (used_in (row_of c))) noted_keys ≡ true
-unfolding command_of commands command_in used_in key_of noted_keys within member
-used-within Ulr = refl
-used-within Pur = refl
-used-within Nor = refl
-used-within Other = refl
+used-within : (c : Std.Option Command) → within (map key_number (used_in (row_of c))) noted ≡ true
+unfolding command_of commands command_in used_in key_of within member
+used-within None = refl
+used-within (Some Ulr) = refl
+used-within (Some Pur) = refl
+used-within (Some Nor) = refl
 
-pub no_second-used : (m : List ℕ) {c : Command} → Ready m c → first_second noted_keys [] (avps_of m) ≡ none → Nothing ≡ sought_of (first_second (map key_number (used m)) [] (avps_of m))
-no_second-used m {c} r e =
+none-there : (o : Option Placed) → is_there o ≡ false → o ≡ none
+none-there none e = refl
+none-there (some p) e = absurd (false≢true (sym e))
+
+pub no_second-used : (m : List ℕ) (c : Std.Option Command) → row_of c ≡ command_of (command_code m) → second_noted m ≡ false
+    → None ≡ sought_of (first_second (map key_number (used m)) [] (avps_of m))
+no_second-used m c own e =
     let keys = map key_number (used_in (row_of c)) in
-    sym (ap sought_of (ap (λ x. first_second (map key_number (used_in x)) [] (avps_of m)) (sym r.own) ∙ second_fewer keys noted_keys (λ k. member-within k keys noted_keys (used-within c)) (avps_of m) [] [] (λ k h. h) e))
+    sym
+    (ap sought_of
+    (ap (λ x. first_second (map key_number (used_in x)) [] (avps_of m)) (sym own)
+    ∙ second_fewer keys noted (λ k. member-within k keys noted (used-within c)) (avps_of m) [] [] (λ k h. h) (none-there (first_second noted [] (avps_of m)) e)))

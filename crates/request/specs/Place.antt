@@ -1,46 +1,46 @@
--- Places in a message, in the paper's words: what was sought, the stretch where its data stands, and the AVPs of a stretch.
+-- Places in a message, in the paper's words: what a search answers, and the data of what was found.
 -- Assumes nothing.
-use Rattle.std.specs.Prelude.{Bool, true, false, cond, List, ℕ, ◌+◌, ◌≤◌, ltb, length}
-use Rattle.std.proofs.Math.Option.{Option, none, some}
-use Rattle.paper.specs.Reader.{Placed, Avps, avps, body_at}
+use Rattle.std.specs.Prelude.{◌≡◌, cond, List, [], ℕ, ◌+◌, ◌≤◌, ltb, length, Option, Some, None}
+use Rattle.std.proofs.Math.Option as Math
+use Rattle.paper.specs.Reader.{Placed, body_at}
+use Rattle.paper.specs.Find.{body_found}
 use Rattle.paper.specs.Shown.{stretch}
-use Rattle.request.specs.declared.place.Span.{Span}
+use Rattle.paper.specs.ShownIn.{Standing}
 use Rattle.request.specs.declared.place.Spot.{Spot}
-use Rattle.request.specs.declared.place.Sought.{Sought}
-use Rattle.request.specs.declared.place.Sought.TheVariants.{At, Nothing}
 
 -- the places of an AVP
 abbrev pub spot_of : Placed → Spot
 spot_of p = record { at = p.at; end = p.end; from = body_at p; to = body_at p + length p.avp.body }
 
 -- the answer for what the paper finds
-abbrev pub sought_of : Option Placed → Sought
-sought_of none = Nothing
-sought_of (some p) = At (spot_of p)
-
-abbrev pub is_at : Sought → Bool
-is_at (At s) = true
-is_at Nothing = false
+abbrev pub sought_of : Math.Option Placed → Option Spot
+sought_of Math.none = None
+sought_of (Math.some p) = Some (spot_of p)
 
 -- of two that were sought the one that stands first
-abbrev pub earlier_sought : Sought → Sought → Sought
-earlier_sought Nothing g = g
-earlier_sought (At p) Nothing = At p
-earlier_sought (At p) (At q) = cond (ltb q.at p.at) (At q) (At p)
+abbrev pub earlier_sought : Option Spot → Option Spot → Option Spot
+earlier_sought None g = g
+earlier_sought (Some p) None = Some p
+earlier_sought (Some p) (Some q) = cond (ltb q.at p.at) (Some q) (Some p)
 
--- where the data of what was found stands
-abbrev pub span_of : Sought → Span
-span_of (At s) = record { at = s.from; end = s.to }
-span_of Nothing = record { at = 0; end = 0 }
+-- the data of an AVP lies inside the message
+pub record DataIn (m : List ℕ) (s : Spot) : Type 0 where
+  pub order : s.from ≤ s.to
+  pub fits : s.to ≤ length m
 
--- the stretch lies inside the message
-pub record InMessage (m : List ℕ) (s : Span) : Type 0 where
-  pub order : s.at ≤ s.end
-  pub fits : s.end ≤ length m
+-- so does that of what was found, if anything
+abbrev pub FoundIn : List ℕ → Option Spot → Type 0
+FoundIn m None = Unit {0}
+FoundIn m (Some s) = DataIn m s
 
-abbrev pub bytes_in : List ℕ → Span → List ℕ
-bytes_in m s = stretch m s.at s.end
+-- the data of what was found, no bytes where nothing was
+abbrev pub data_in : List ℕ → Option Spot → List ℕ
+data_in m None = []
+data_in m (Some s) = stretch m s.from s.to
 
--- the AVPs that stand there
-abbrev pub avps_in : List ℕ → Span → Avps
-avps_in m s = avps s.at (bytes_in m s)
+-- `f` is the answer for what the paper finds in `m`, `o`: its places, which can be read, and its data
+pub record Finds (m : List ℕ) (o : Math.Option Placed) (f : Option Spot) : Type 0 where
+  pub sought : f ≡ sought_of o
+  pub stands : Standing m o
+  pub inside : FoundIn m f
+  pub value : data_in m f ≡ body_found o

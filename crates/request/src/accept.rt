@@ -1,65 +1,53 @@
-// What an accepted request asks: the numbers that the procedures go by, and where its digits and its network stand. Origin-Host is handed on as the
-// part of the request itself that holds it (avp's `origin_host`).
-ghost use Rattle.std.specs.Prelude.{◌≡◌, ◌≤◌, length};
-ghost use Rattle.paper.specs.Layout.{message_header};
+// What an accepted request asks: the numbers that the procedures go by, and the parts of the request that hold its digits and its network.
+ghost use Rattle.std.specs.Prelude.{◌≡◌};
 ghost use Rattle.paper.specs.Request.{value_of};
 ghost use Rattle.paper.specs.Asked.{asked_of};
-ghost use Rattle.request.specs.Held.{Places};
 ghost use Rattle.request.specs.Profile.{key_at};
-ghost use Rattle.request.specs.Accepted.{SpanOf, Accepts};
+ghost use Rattle.request.specs.Accepted.{Accepts};
 
-use crate::held::find_imei;
-use crate::noted::find_top;
-use crate::place::{Span, is_there, number_of, span_of};
-use crate::profile::{RAT_TYPE, USER_NAME, VISITED_PLMN_ID, command_of, flags_key};
+use crate::noted::Noted;
+use crate::profile::flags_key;
+use dictionary::Key;
 use paper::Asked;
-use reader::header::read_header;
+use paper::keys::{RAT_TYPE, USER_NAME, VISITED_PLMN_ID};
 
+// The data is that of the first AVP, no bytes where none is there; for the IMEI that is told apart.
 #[derive(Clone, Copy)]
-pub struct Accepted {
+pub struct Accepted<'a> {
     pub asked: Asked,
-    pub user_name: Span,
-    pub visited_plmn: Span,
-    pub imei: Span,
+    pub user_name: &'a [u8],
+    pub visited_plmn: &'a [u8],
+    pub imei: Option<&'a [u8]>,
 }
 
-fn asked_of(m: &[u8], places: &[usize]) -> Asked
-    requires { (message_header ≤ length m.now) × Places m.now places.now }
-    ensures { result ≡ asked_of m.now }
+fn asked_of(noted: &Noted) -> Asked
+    ensures { result ≡ asked_of noted.now.request.now }
 {
-    let h = read_header(m);
-    let command = h.command;
-    let rat = find_top(m, places, RAT_TYPE);
-    let flags = find_top(m, places, flags_key(command));
-    let imei = find_imei(m, places, command_of(command));
+    let command = noted.header.command;
+    let rat = noted.find_top(RAT_TYPE);
+    let flags = noted.find_top(flags_key(command));
     Asked {
         command,
-        rat: number_of(m, rat),
-        flags: number_of(m, flags),
-        has_flags: is_there(flags),
-        has_imei: is_there(imei),
+        rat: noted.number_if(rat).unwrap_or(0),
+        flags: noted.number_if(flags),
     }
 }
 
-// Where the data of the first AVP of a key stands.
-fn value_of(m: &[u8], places: &[usize], key: u64) -> Span
-    requires { (message_header ≤ length m.now) × Places m.now places.now }
-    ensures { SpanOf m.now (value_of (key_at key) m.now) result }
+// The data of the first AVP of a key.
+fn value_of<'a>(noted: &Noted<'a>, key: Key) -> &'a [u8]
+    ensures { result.now ≡ value_of (key_at key) noted.now.request.now }
 {
-    span_of(find_top(m, places, key))
+    noted.data_of(noted.find_top(key))
 }
 
-// What the request `m` asks, of which `places` were noted. Of a request that is refused the places are right as well, with no bytes where an AVP is absent.
-pub fn accept(m: &[u8], places: &[usize]) -> Accepted
-    requires { (message_header ≤ length m.now) × Places m.now places.now }
-    ensures { Accepts m.now result }
+// What a request asks. Of a request that is refused the values are right as well.
+pub fn accept<'a>(noted: &Noted<'a>) -> Accepted<'a>
+    ensures { Accepts noted.now.request.now result }
 {
-    let h = read_header(m);
-    let imei = find_imei(m, places, command_of(h.command));
     Accepted {
-        asked: asked_of(m, places),
-        user_name: value_of(m, places, USER_NAME),
-        visited_plmn: value_of(m, places, VISITED_PLMN_ID),
-        imei: span_of(imei),
+        asked: asked_of(noted),
+        user_name: value_of(noted, USER_NAME),
+        visited_plmn: value_of(noted, VISITED_PLMN_ID),
+        imei: noted.data_if(noted.find_imei()),
     }
 }

@@ -1,48 +1,74 @@
-// The AVPs that commands use, found by one walk over the request: where the first of each stands, and whether one was met twice.
-// Every search at the top level goes by these places.
-ghost use Rattle.std.specs.Prelude.{◌≡◌, false, [], ◌≤◌, length};
-ghost use Rattle.std.proofs.Math.Option.{none};
-ghost use Rattle.paper.specs.Find.{first_second};
+// A request as it was noted by one walk: its header, its command, and where the first of each AVP that some command uses stands. Every search in it goes
+// by these.
+ghost use Rattle.std.specs.Prelude.{◌≡◌, false, [], ◌≤◌, length, drop};
+ghost use Rattle.std.proofs.Props.{props};
+ghost use base.Stored.{Coded-set};
 ghost use Rattle.paper.specs.Layout.{message_header};
-ghost use Rattle.paper.specs.Request.{find, avps_of};
-ghost use Rattle.request.specs.Place.{sought_of};
-ghost use Rattle.request.specs.Profile.{key_at, noted_keys};
-ghost use Rattle.request.specs.Held.{Places};
+ghost use Rattle.paper.specs.Profile.{command_of};
+ghost use Rattle.paper.specs.Request.{command_code, find, avps_of};
+ghost use Rattle.reader.specs.Header.{header_of};
+ghost use Rattle.request.specs.Held.{Places, second_noted};
+ghost use Rattle.request.specs.Place.{Finds};
+ghost use Rattle.request.specs.Profile.{row_of, key_at};
 
-use crate::place::{Sought, Span, bytes_in, spot_of};
-use crate::profile::noted_keys;
-use avp::find::{Firsts, Found, find_noted, first_places};
+use crate::place::{AvpList, Spot};
+use crate::profile::{Command, NOTED_KEYS, command_of};
+use avp::find::{Firsts, find_noted, first_places};
+use dictionary::Key;
 use paper::layout::MESSAGE_HEADER;
+use reader::header::{Header, read_header};
 
-// Notes where the used AVPs of the request `m` stand.
-pub fn note(m: &[u8]) -> Firsts
-    requires { message_header ≤ length m.now }
-    ensures places { Places m.now result.places }
-    ensures unrepeated { result.again ≡ false → first_second noted_keys [] (avps_of m.now) ≡ none }
-{
-    let list = Span {
-        at: MESSAGE_HEADER,
-        end: m.len(),
-    };
-    let keys = noted_keys();
-    first_places(bytes_in(m, list), &keys)
+#[derive(Clone, Copy)]
+pub struct Noted<'a> {
+    pub request: &'a [u8],
+    pub header: Header,
+    // None where the code is no command's of the profile.
+    pub command: Option<Command>,
+    // Some AVP that some command uses was met twice.
+    pub again: bool,
+    pub places: [Option<usize>; 16],
+    pub ghost whole: { message_header ≤ length request.now },
+    pub ghost read: { header ≡ header_of request.now } by { Coded-set header-code _ _ },
+    pub ghost own: { row_of command ≡ command_of (command_code request.now) } by { Prim.hlevel props },
+    pub ghost noted: { Places request.now places } by { Prim.hlevel props },
+    pub ghost unrepeated: { again ≡ false → second_noted request.now ≡ false },
 }
 
-// The first AVP of a key at the top level.
-pub fn find_top(m: &[u8], places: &[usize], key: u64) -> Sought
-    requires { (message_header ≤ length m.now) × Places m.now places.now }
-    ensures { result ≡ sought_of (find (key_at key) (avps_of m.now)) }
+// All AVPs behind the header.
+pub fn avps_of(m: &[u8]) -> AvpList
+    requires { message_header ≤ length m.now }
+    ensures at { result.at ≡ message_header }
+    ensures bytes { result.bytes.now ≡ drop message_header m.now }
 {
-    let list = Span {
+    AvpList {
         at: MESSAGE_HEADER,
-        end: m.len(),
-    };
-    let s = bytes_in(m, list);
-    let keys = noted_keys();
-    let vendor = (key / 4294967296) as u32;
-    let code = (key % 4294967296) as u32;
-    match find_noted(s, &keys, places, vendor, code) {
-        Found::At(a) => Sought::At(spot_of(a, list)),
-        Found::Nothing => Sought::Nothing,
+        bytes: &m[MESSAGE_HEADER..],
+    }
+}
+
+// Notes the request `m`.
+pub fn note(m: &[u8]) -> Noted
+    requires { message_header ≤ length m.now }
+    ensures { result.request.now ≡ m.now }
+{
+    let header = read_header(m);
+    let Firsts { again, places } = first_places(avps_of(m).bytes, &NOTED_KEYS);
+    Noted {
+        request: m,
+        header,
+        command: command_of(header.command),
+        again,
+        places,
+    }
+}
+
+impl<'a> Noted<'a> {
+    // The first AVP of a key at the top level.
+    pub fn find_top(&self, key: Key) -> Option<Spot>
+        ensures { Finds self.now.request.now (find (key_at key) (avps_of self.now.request.now)) result }
+    {
+        let list = avps_of(self.request);
+        let a = find_noted(list.bytes, &NOTED_KEYS, &self.places, key)?;
+        Some(list.spot_of(a))
     }
 }

@@ -1,261 +1,213 @@
-// The refusals with an answer, each a test by itself: fine, or a Result-Code, the AVP that Failed-AVP shows and whether the answer echoes.
-// The order of the tests is that of `judge`.
-ghost use Rattle.std.specs.Prelude.{◌≡◌, false, cond, List, [], map, ℕ, ◌≤◌, length};
+// The refusals with an answer, each a test by itself: fine, or the refusal. The order of the tests is that of `judge`.
+ghost use Rattle.std.specs.Prelude.{◌≡◌, true, false, cond, List, ℕ, [], map};
 ghost use Rattle.std.proofs.Math.Option.{none, some};
 ghost use Rattle.paper.specs.Reader.{told};
 ghost use Rattle.paper.specs.Find.{first_second};
-ghost use Rattle.paper.specs.Profile.{command_of};
-ghost use Rattle.paper.specs.Request.{command_code, view_of, avps_of, key_number, used, version_test, length_test, error_test, fault_test, application_test, command_test, unsupported_test, repeated_test, first_absent, missing, refuse, absent_test, values_test};
-ghost use Rattle.paper.specs.Layout.{message_header};
-ghost use Rattle.reader.specs.Header.{header_of};
-ghost use Rattle.request.specs.declared.tests.Test.TheVariants.{Fine, Fails};
-ghost use Rattle.request.specs.Profile.{row_of, key_at, noted_keys};
+ghost use Rattle.paper.specs.Request.{view_of, avps_of, key_number, used, version_test, length_test, error_test, fault_test, application_test, command_test, unsupported_test, repeated_test, first_absent, missing, refuse, absent_test, values_test};
+ghost use Rattle.request.specs.Profile.{key_at};
 ghost use Rattle.request.specs.Place.{sought_of};
-ghost use Rattle.request.specs.Test.{fails_of, shown_test, Answers, is_four, Dictionary};
-ghost use Rattle.request.specs.Held.{Ready, Places};
+ghost use Rattle.request.specs.Test.{Answers, refusal_of, shown_test, is_four};
 
-use crate::held::{all_avps, find_imei, find_used, terminal_avps};
-use crate::noted::find_top;
-use crate::place::{Sought, data_of, earlier, is_there, second_in};
-use crate::profile::{Command, IMEI, ORIGIN_HOST, USER_NAME, VISITED_PLMN_ID, keys_of};
+use crate::noted::{Noted, avps_of};
+use crate::place::{Spot, earlier};
 use crate::values::{is_imei, is_imsi, is_name, is_plmn};
-use dictionary::{Kind, lookup};
+use dictionary::{Key, Kind, lookup};
+use paper::keys::{IMEI, ORIGIN_HOST, USER_NAME, VISITED_PLMN_ID};
 use paper::profile::APPLICATION;
 use paper::{Failed, ResultCode, Visit};
-use reader::header::Header;
 
-#[derive(Clone, Copy)]
-pub enum Test {
-    Fine,
-    Fails {
-        code: ResultCode,
-        failed: Failed,
-        echo: bool,
-    },
+// A refusal with an answer: its Result-Code, the AVP that Failed-AVP shows, and whether the answer echoes Session-Id and Proxy-Info.
+#[derive(Clone, Copy, Debug, PartialEq, Eq)]
+pub struct Refusal {
+    pub code: ResultCode,
+    pub failed: Option<Failed>,
+    pub echo: bool,
 }
 
-pub fn fails(t: Test) -> bool
-    ensures { result ≡ fails_of t }
+// A refusal whose answer echoes Session-Id and Proxy-Info.
+fn refuse(code: u32, failed: Option<Failed>) -> Refusal
+    ensures { result ≡ refusal_of code failed true }
 {
-    match t {
-        Test::Fine => false,
-        Test::Fails {
-            code: _,
-            failed: _,
-            echo: _,
-        } => true,
-    }
-}
-
-fn fails_with(code: u32, failed: Failed, echo: bool) -> Test
-    ensures { result ≡ Fails (record { 0 = code }) failed echo }
-{
-    Test::Fails {
+    Refusal {
         code: ResultCode(code),
         failed,
-        echo,
+        echo: true,
     }
 }
 
-// 5011: version not 1. After this, 5015, 3008 and faults of the visit the answer echoes neither Session-Id nor Proxy-Info.
-pub fn version_test(h: Header) -> Test
-    ensures { (m : List ℕ) → h ≡ header_of m → Answers m (version_test m) result }
+// One whose answer echoes neither: 5011, 5015, 3008 and faults of the visit.
+fn mute(code: u32, failed: Option<Failed>) -> Refusal
+    ensures { result ≡ refusal_of code failed false }
 {
-    if h.version == 1 {
-        return Test::Fine;
+    Refusal {
+        code: ResultCode(code),
+        failed,
+        echo: false,
     }
-    fails_with(5011, Failed::Nothing, false)
 }
 
-// 5015: the length field is not the `n` bytes given, or they are no multiple of 4.
-pub fn length_test(h: Header, n: usize) -> Test
-    ensures { (m : List ℕ) → h ≡ header_of m → n ≡ length m → Answers m (length_test m) result }
+// 5011: version not 1.
+pub(crate) fn version_test(noted: &Noted) -> Result<(), Refusal>
+    ensures { Answers noted.now.request.now (version_test noted.now.request.now) result }
 {
-    if (h.length as usize == n) & (n % 4 == 0) {
-        return Test::Fine;
+    if noted.header.version == 1 {
+        return Ok(());
     }
-    fails_with(5015, Failed::Nothing, false)
+    Err(mute(5011, None))
+}
+
+// 5015: the length field is not the bytes given, or they are no multiple of 4.
+pub(crate) fn length_test(noted: &Noted) -> Result<(), Refusal>
+    ensures { Answers noted.now.request.now (length_test noted.now.request.now) result }
+{
+    let n = noted.request.len();
+    if (noted.header.length as usize == n) & (n % 4 == 0) {
+        return Ok(());
+    }
+    Err(mute(5015, None))
 }
 
 // 3008: E bit set.
-pub fn error_test(h: Header) -> Test
-    ensures { (m : List ℕ) → h ≡ header_of m → Answers m (error_test m) result }
+pub(crate) fn error_test(noted: &Noted) -> Result<(), Refusal>
+    ensures { Answers noted.now.request.now (error_test noted.now.request.now) result }
 {
-    if h.flags / 32 % 2 == 1 {
-        return fails_with(3008, Failed::Nothing, false);
+    if noted.header.flags / 32 % 2 == 1 {
+        return Err(mute(3008, None));
     }
-    Test::Fine
+    Ok(())
 }
 
 // 5014 or 5004: the first fault of the visit, shown by its head alone.
-pub fn fault_test(v: Visit) -> Test
-    ensures { (m : List ℕ) → message_header ≤ length m → v ≡ told (view_of m) → Answers m (fault_test m) result }
+pub(crate) fn fault_test(noted: &Noted, visit: Visit) -> Result<(), Refusal>
+    ensures { visit ≡ told (view_of noted.now.request.now) → Answers noted.now.request.now (fault_test noted.now.request.now) result }
 {
-    match v {
-        Visit::Fault { code, at, end } => fails_with(code, Failed::Bare { at, end }, false),
-        Visit::Unsupported { at: _, end: _ } => Test::Fine,
-        Visit::Clean => Test::Fine,
+    match visit {
+        Visit::Fault { code, at, end } => Err(mute(code, Some(Failed::Bare { at, end }))),
+        _ => Ok(()),
     }
 }
 
 // 3007: another application.
-pub fn application_test(h: Header) -> Test
-    ensures { (m : List ℕ) → h ≡ header_of m → Answers m (application_test m) result }
+pub(crate) fn application_test(noted: &Noted) -> Result<(), Refusal>
+    ensures { Answers noted.now.request.now (application_test noted.now.request.now) result }
 {
-    if h.application == APPLICATION {
-        return Test::Fine;
+    if noted.header.application == APPLICATION {
+        return Ok(());
     }
-    fails_with(3007, Failed::Nothing, true)
+    Err(refuse(3007, None))
 }
 
 // 3001: no command of the profile.
-pub fn command_test(c: Command) -> Test
-    ensures { (m : List ℕ) → row_of c ≡ command_of (command_code m) → Answers m (command_test m) result }
+pub(crate) fn command_test(noted: &Noted) -> Result<(), Refusal>
+    ensures { Answers noted.now.request.now (command_test noted.now.request.now) result }
 {
-    match c {
-        Command::Other => fails_with(3001, Failed::Nothing, true),
-        Command::Ulr => Test::Fine,
-        Command::Pur => Test::Fine,
-        Command::Nor => Test::Fine,
+    match noted.command {
+        Some(_) => Ok(()),
+        None => Err(refuse(3001, None)),
     }
 }
 
 // 5001: the first unknown AVP with M, where the visit has no fault.
-pub fn unsupported_test(v: Visit) -> Test
-    ensures { (m : List ℕ) → message_header ≤ length m → v ≡ told (view_of m) → fault_test m ≡ none → Answers m (unsupported_test m) result }
+pub(crate) fn unsupported_test(noted: &Noted, visit: Visit) -> Result<(), Refusal>
+    ensures { visit ≡ told (view_of noted.now.request.now) → fault_test noted.now.request.now ≡ none → Answers noted.now.request.now (unsupported_test noted.now.request.now) result }
 {
-    match v {
-        Visit::Unsupported { at, end } => fails_with(5001, Failed::Whole { at, end }, true),
-        Visit::Fault {
-            code: _,
-            at: _,
-            end: _,
-        } => Test::Fine,
-        Visit::Clean => Test::Fine,
+    match visit {
+        Visit::Unsupported { at, end } => Err(refuse(5001, Some(Failed::Whole { at, end }))),
+        _ => Ok(()),
     }
 }
 
 // A refusal that shows what was found, and none where nothing was.
-fn shown(code: u32, f: Sought) -> Test
-    ensures { result ≡ shown_test code f }
+fn shown(code: u32, found: Option<Spot>) -> Result<(), Refusal>
+    ensures { result ≡ shown_test code found }
 {
-    match f {
-        Sought::At(s) => fails_with(
+    match found {
+        Some(spot) => Err(refuse(
             code,
-            Failed::Whole {
-                at: s.at,
-                end: s.end,
-            },
-            true,
-        ),
-        Sought::Nothing => Test::Fine,
+            Some(Failed::Whole {
+                at: spot.at,
+                end: spot.end,
+            }),
+        )),
+        None => Ok(()),
     }
 }
 
-// The first at the top level that is a second of an AVP that the command uses. `again` says that some command's AVP is there twice.
-fn second_used(m: &[u8], again: bool, c: Command) -> Sought
-    requires { Ready m.now c × (again ≡ false → first_second noted_keys [] (avps_of m.now) ≡ none) }
-    ensures { result ≡ sought_of (first_second (map key_number (used m.now)) [] (avps_of m.now)) }
+// The first at the top level that is a second of an AVP that the command uses.
+fn second_used(noted: &Noted) -> Option<Spot>
+    ensures { result ≡ sought_of (first_second (map key_number (used noted.now.request.now)) [] (avps_of noted.now.request.now)) }
 {
-    if !again {
-        return Sought::Nothing;
+    if !noted.again {
+        return None;
     }
-    let keys = keys_of(c);
-    let all = keys.all;
-    let n = keys.used;
-    second_in(m, all_avps(m), &all[..n])
+    let command = noted.command?;
+    avps_of(noted.request).second(command.used())
 }
 
 // 5009: the second of an AVP that the command uses, at the top or as an IMEI of Terminal-Information; the one that stands first.
-pub fn repeated_test(m: &[u8], places: &[usize], again: bool, c: Command) -> Test
-    requires { Ready m.now c × Places m.now places.now × (again ≡ false → first_second noted_keys [] (avps_of m.now) ≡ none) }
-    ensures { Answers m.now (repeated_test m.now) result }
+pub(crate) fn repeated_test(noted: &Noted) -> Result<(), Refusal>
+    ensures { Answers noted.now.request.now (repeated_test noted.now.request.now) result }
 {
-    let f = second_used(m, again, c);
-    let imei = [IMEI];
-    let g = second_in(m, terminal_avps(m, places, c), &imei);
-    shown(5009, earlier(f, g))
+    let imei = noted.terminal_avps().second(&[IMEI]);
+    shown(5009, earlier(second_used(noted), imei))
 }
 
-fn is_four(k: Kind) -> bool
-    ensures { result ≡ is_four k }
+fn is_four(kind: Kind) -> bool
+    ensures { result ≡ is_four kind }
 {
-    match k {
-        Kind::Four => true,
-        Kind::Eight => false,
-        Kind::Any => false,
-        Kind::Group => false,
-        Kind::Closed => false,
-        Kind::Unknown => false,
-    }
+    matches!(kind, Kind::Four)
 }
 
 // The refusal that shows an AVP that is not there.
-fn missing(keys: &[u64], kinds: &[u8], key: u64) -> Test
-    requires { Dictionary keys.now kinds.now }
-    ensures { (m : List ℕ) → Answers m (refuse 5005 (some (missing (key_at key)))) result }
+fn missing(key: Key) -> Refusal
+    ensures { (m : List ℕ) → Answers m (refuse 5005 (some (missing (key_at key)))) (Err result) }
 {
-    let vendor = (key / 4294967296) as u32;
-    let code = (key % 4294967296) as u32;
-    let four = is_four(lookup(keys, kinds, vendor, code));
-    fails_with(5005, Failed::Missing { vendor, code, four }, true)
+    let four = is_four(lookup(key));
+    refuse(5005, Some(Failed::Missing { key, four }))
 }
 
 // The first of the required keys that no AVP has.
-fn first_absent(keys: &[u64], kinds: &[u8], m: &[u8], places: &[usize], required: &[u64]) -> Test
-    requires { Dictionary keys.now kinds.now × (message_header ≤ length m.now) × Places m.now places.now }
-    ensures { Answers m.now (first_absent (map key_at required.now) (avps_of m.now)) result }
+fn first_absent(noted: &Noted, required: &[Key]) -> Result<(), Refusal>
+    ensures { Answers noted.now.request.now (first_absent (map key_at required.now) (avps_of noted.now.request.now)) result }
 {
-    let mut i = 0;
-    while i < required.len() {
-        let key = required[i];
-        if is_there(find_top(m, places, key)) {
-            i += 1;
-        } else {
-            return missing(keys, kinds, key);
+    for key in required {
+        if noted.find_top(*key).is_none() {
+            return Err(missing(*key));
         }
     }
-    Test::Fine
+    Ok(())
 }
 
 // 5005: a required AVP absent; the first in the profile's order.
-pub fn absent_test(keys: &[u64], kinds: &[u8], m: &[u8], places: &[usize], c: Command) -> Test
-    requires { Dictionary keys.now kinds.now × Ready m.now c × Places m.now places.now }
-    ensures { Answers m.now (absent_test m.now) result }
+pub(crate) fn absent_test(noted: &Noted) -> Result<(), Refusal>
+    ensures { Answers noted.now.request.now (absent_test noted.now.request.now) result }
 {
-    let listed = keys_of(c);
-    let all = listed.all;
-    let n = listed.required;
-    first_absent(keys, kinds, m, places, &all[..n])
+    match noted.command {
+        Some(command) => first_absent(noted, command.required()),
+        None => Ok(()),
+    }
 }
 
 // 5004 for what was found and is not right.
-fn value_test(right: bool, f: Sought) -> Test
-    ensures { result ≡ cond right Fine (shown_test 5004 f) }
+fn value_test(right: bool, found: Option<Spot>) -> Result<(), Refusal>
+    ensures { result ≡ cond right (Ok tt) (shown_test 5004 found) }
 {
-    if right { Test::Fine } else { shown(5004, f) }
+    if right {
+        return Ok(());
+    }
+    shown(5004, found)
 }
 
 // 5004: User-Name, Origin-Host, Visited-PLMN-Id, IMEI, in this order.
-pub fn values_test(m: &[u8], places: &[usize], c: Command) -> Test
-    requires { Ready m.now c × Places m.now places.now }
-    ensures { Answers m.now (values_test m.now) result }
+pub(crate) fn values_test(noted: &Noted) -> Result<(), Refusal>
+    ensures { Answers noted.now.request.now (values_test noted.now.request.now) result }
 {
-    let user_name = find_used(m, places, c, USER_NAME);
-    let a = value_test(is_imsi(data_of(m, user_name)), user_name);
-    if fails(a) {
-        return a;
-    }
-    let origin_host = find_used(m, places, c, ORIGIN_HOST);
-    let b = value_test(is_name(data_of(m, origin_host)), origin_host);
-    if fails(b) {
-        return b;
-    }
-    let visited_plmn = find_used(m, places, c, VISITED_PLMN_ID);
-    let d = value_test(is_plmn(data_of(m, visited_plmn)), visited_plmn);
-    if fails(d) {
-        return d;
-    }
-    let imei = find_imei(m, places, c);
-    value_test(is_imei(data_of(m, imei)), imei)
+    let user_name = noted.find_used(USER_NAME);
+    value_test(is_imsi(noted.data_of(user_name)), user_name)?;
+    let origin_host = noted.find_used(ORIGIN_HOST);
+    value_test(is_name(noted.data_of(origin_host)), origin_host)?;
+    let visited_plmn = noted.find_used(VISITED_PLMN_ID);
+    value_test(is_plmn(noted.data_of(visited_plmn)), visited_plmn)?;
+    let imei = noted.find_imei();
+    value_test(is_imei(noted.data_of(imei)), imei)
 }

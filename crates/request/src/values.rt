@@ -1,4 +1,6 @@
 // When the data of an AVP is right (5004): an IMSI, a name, a PLMN, an IMEI.
+#![tactic(auto, unfolding(paper::specs::Request::imsi_digits, paper::specs::Request::is_name, paper::specs::Request::three_bytes, paper::specs::Request::imei_digits))]
+
 ghost use Rattle.std.specs.Prelude.{◌≡◌};
 ghost use Rattle.paper.specs.Request.{imsi_digits, is_name, three_bytes, imei_digits};
 
@@ -8,14 +10,14 @@ use wire::stretch::{all_digits, name_bytes};
 pub fn is_imsi(s: &[u8]) -> bool
     ensures { result ≡ imsi_digits s.now }
 {
-    (LEAST_IMSI <= s.len()) & (s.len() <= MOST_DIGITS) & all_digits(s)
+    (LEAST_IMSI..=MOST_DIGITS).contains(&s.len()) & all_digits(s)
 }
 
 // The name of a node, a host or a realm.
 pub fn is_name(s: &[u8]) -> bool
     ensures { result ≡ is_name s.now }
 {
-    (1 <= s.len()) & (s.len() <= MOST_NAME) & name_bytes(s)
+    (1..=MOST_NAME).contains(&s.len()) & name_bytes(s)
 }
 
 pub fn is_plmn(s: &[u8]) -> bool

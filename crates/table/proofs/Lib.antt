@@ -1,6 +1,6 @@
 pub mod BitLaws
 pub mod BoundLaws
-pub mod HalfLaws
 pub mod KeyLaws
 pub mod PartLaws
+pub mod RecordLaws
 pub mod WriteLaws

@@ -1,3 +1,3 @@
 pub mod Bounds
 pub mod Found
-pub mod Halves
+pub mod Records

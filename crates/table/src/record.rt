@@ -1,10 +1,11 @@
-// The fields of record `i`, read and stored. A field's place counts from the start of the record; a store leaves every other byte as it is.
-// What is asked everywhere is that record `i` lies inside the buffer, as every record that `find_record` finds does.
+// The fields of a record, read and stored. A field's place counts from the start of the record; a store leaves every other byte as it is.
+// What is asked of record `i` is that it lies inside the buffer, as every record that `find_record` finds does; a `Record` does by itself.
 ghost use Rattle.std.specs.Prelude.{◌≡◌, [], ◌∷◌, ◌+◌, ◌*◌, ◌^◌, ◌≤◌, ◌<◌, length, get_or};
 ghost use Rattle.wire.specs.Number.{be, num_at};
 ghost use Rattle.wire.specs.Put.{part};
-ghost use Rattle.paper.specs.Layout.{record_size, change_at, subscription_at, restriction_at, plmn_count_at, plmns_at, plmn_size, most_plmns, most_name, ambr_at, most_digits};
+ghost use Rattle.paper.specs.Layout.{table_header, record_size, change_at, subscription_at, restriction_at, plmn_count_at, plmns_at, plmn_size, most_plmns, purged_at, most_name, ambr_at, most_digits};
 ghost use Rattle.paper.specs.Table.{record_at, record_of, change_of, store};
+ghost use Rattle.table.specs.Records.{records_of};
 ghost use Rattle.paper.specs.Fields.{filled, with_bit, without_bit, purged_of, store_node, store_purged, store_imei};
 
 use paper::layout;
@@ -17,113 +18,126 @@ pub fn record_at(i: usize) -> usize
     layout::TABLE_HEADER + layout::RECORD_SIZE * i
 }
 
+// The records behind the header, each a whole one.
+pub fn records(t: &[u8]) -> &[[u8; layout::RECORD_SIZE]]
+    requires { table_header ≤ length t.now }
+    ensures { result.now ≡ records_of t.now }
+{
+    t[layout::TABLE_HEADER..].as_chunks().0
+}
+
 // ---- read
 
-// The byte at `at` of record `i`.
-pub fn byte_of(t: &[u8], i: usize, at: usize) -> u8
-    requires { (record_at i + record_size ≤ length t.now) × (at < record_size) }
-    ensures { result ≡ get_or (record_of t.now i) at 0 }
-{
-    let start = record_at(i);
-    t[start + at]
+// One record as it stands in the table, always a whole one.
+#[derive(Clone, Copy)]
+pub struct Record<'a> {
+    pub bytes: &'a [u8; layout::RECORD_SIZE],
 }
 
-// The number of 4 bytes at `at` of record `i`.
-pub fn word_of(t: &[u8], i: usize, at: usize) -> u32
-    requires { (record_at i + record_size ≤ length t.now) × (at + 4 ≤ record_size) }
-    ensures { result ≡ num_at 4 (record_of t.now i) at }
-{
-    let start = record_at(i);
-    wire::number::get_u32(t, start + at)
+impl<'a> Record<'a> {
+    // Record `i`.
+    pub fn at(t: &'a [u8], i: usize) -> Record<'a>
+        requires { record_at i + record_size ≤ length t.now }
+        ensures { result.bytes.now ≡ record_of t.now i }
+    {
+        Record {
+            bytes: &records(t)[i],
+        }
+    }
+
+    // The byte at `at`.
+    pub fn byte(self, at: usize) -> u8
+        requires { at < record_size }
+        ensures { result ≡ get_or self.entry.bytes.now at 0 }
+    {
+        self.bytes[at]
+    }
+
+    // The number of 4 bytes at `at`.
+    pub fn word(self, at: usize) -> u32
+        requires { at + 4 ≤ record_size }
+        ensures { result ≡ num_at 4 self.entry.bytes.now at }
+    {
+        let bytes = self.bytes;
+        wire::number::get::<u32>(bytes, at)
+    }
+
+    // `n` bytes at `at`, as that stretch of the table itself.
+    pub fn part(self, at: usize, n: usize) -> &'a [u8]
+        requires { at + n ≤ record_size }
+        ensures { result.now ≡ part at n self.entry.bytes.now }
+    {
+        let bytes = self.bytes;
+        let end = at + n;
+        &bytes[at..end]
+    }
+
+    // The bytes of the field at `at` that stands with its count in front: a node's name, none where the node is not registered, or the IMEI.
+    pub fn counted(self, at: usize) -> &'a [u8]
+        requires { at + 1 + get_or self.bytes.now at 0 ≤ record_size }
+        ensures { result.now ≡ part (at + 1) (get_or self.entry.bytes.now at 0) self.entry.bytes.now }
+    {
+        let n = self.byte(at) as usize;
+        self.part(at + 1, n)
+    }
+
+    pub fn change_number(self) -> u32
+        ensures { result ≡ change_of self.entry.bytes.now }
+    {
+        self.word(layout::CHANGE_AT)
+    }
+
+    // Bit 0 EPS subscription, bit 1 GPRS subscription.
+    pub fn subscription(self) -> u8
+        ensures { result ≡ get_or self.entry.bytes.now subscription_at 0 }
+    {
+        self.byte(layout::SUBSCRIPTION_AT)
+    }
+
+    // Access-Restriction-Data.
+    pub fn restriction(self) -> u32
+        ensures { result ≡ num_at 4 self.entry.bytes.now restriction_at }
+    {
+        self.word(layout::RESTRICTION_AT)
+    }
+
+    pub fn plmn_count(self) -> u8
+        ensures { result ≡ get_or self.entry.bytes.now plmn_count_at 0 }
+    {
+        self.byte(layout::PLMN_COUNT_AT)
+    }
+
+    // PLMN `j`, counted from 0.
+    pub fn plmn(self, j: usize) -> &'a [u8]
+        requires { j < most_plmns }
+        ensures { result.now ≡ part (plmns_at + plmn_size * j) plmn_size self.entry.bytes.now }
+    {
+        self.part(layout::PLMNS_AT + layout::PLMN_SIZE * j, layout::PLMN_SIZE)
+    }
+
+    // Bit 0 purged in MME, bit 1 purged in SGSN.
+    pub fn purged(self) -> u8
+        ensures { result ≡ get_or self.entry.bytes.now purged_at 0 }
+    {
+        self.byte(layout::PURGED_AT)
+    }
+
+    // AMBR uplink.
+    pub fn uplink(self) -> u32
+        ensures { result ≡ num_at 4 self.entry.bytes.now ambr_at }
+    {
+        self.word(layout::AMBR_AT)
+    }
+
+    // AMBR downlink.
+    pub fn downlink(self) -> u32
+        ensures { result ≡ num_at 4 self.entry.bytes.now (ambr_at + 4) }
+    {
+        self.word(layout::AMBR_AT + 4)
+    }
 }
 
-// `n` bytes at `at` of record `i`, as that stretch of the table itself.
-pub fn bytes_of(t: &[u8], i: usize, at: usize, n: usize) -> &[u8]
-    requires { (record_at i + record_size ≤ length t.now) × (at + n ≤ record_size) }
-    ensures { result.now ≡ part at n (record_of t.now i) }
-{
-    let from = record_at(i) + at;
-    let to = from + n;
-    &t[from..to]
-}
-
-// The bytes of the field at `at` that stands with its count in front: a node's name, none where the node is not registered, or the IMEI.
-pub fn counted_of(t: &[u8], i: usize, at: usize) -> &[u8]
-    requires { (record_at i + record_size ≤ length t.now) × (at + 1 + get_or (record_of t.now i) at 0 ≤ record_size) }
-    ensures { result.now ≡ part (at + 1) (get_or (record_of t.now i) at 0) (record_of t.now i) }
-{
-    let n = byte_of(t, i, at) as usize;
-    bytes_of(t, i, at + 1, n)
-}
-
-pub fn change_number(t: &[u8], i: usize) -> u32
-    requires { record_at i + record_size ≤ length t.now }
-    ensures { result ≡ change_of (record_of t.now i) }
-{
-    word_of(t, i, layout::CHANGE_AT)
-}
-
-// Bit 0 EPS subscription, bit 1 GPRS subscription.
-pub fn subscription(t: &[u8], i: usize) -> u8
-    requires { record_at i + record_size ≤ length t.now }
-    ensures { result ≡ get_or (record_of t.now i) subscription_at 0 }
-{
-    byte_of(t, i, layout::SUBSCRIPTION_AT)
-}
-
-// Access-Restriction-Data.
-pub fn restriction(t: &[u8], i: usize) -> u32
-    requires { record_at i + record_size ≤ length t.now }
-    ensures { result ≡ num_at 4 (record_of t.now i) restriction_at }
-{
-    word_of(t, i, layout::RESTRICTION_AT)
-}
-
-pub fn plmn_count(t: &[u8], i: usize) -> u8
-    requires { record_at i + record_size ≤ length t.now }
-    ensures { result ≡ get_or (record_of t.now i) plmn_count_at 0 }
-{
-    byte_of(t, i, layout::PLMN_COUNT_AT)
-}
-
-// PLMN `j`, counted from 0.
-pub fn plmn(t: &[u8], i: usize, j: usize) -> &[u8]
-    requires { (record_at i + record_size ≤ length t.now) × (j < most_plmns) }
-    ensures { result.now ≡ part (plmns_at + plmn_size * j) plmn_size (record_of t.now i) }
-{
-    bytes_of(
-        t,
-        i,
-        layout::PLMNS_AT + layout::PLMN_SIZE * j,
-        layout::PLMN_SIZE,
-    )
-}
-
-// Bit 0 purged in MME, bit 1 purged in SGSN.
-pub fn purged(t: &[u8], i: usize) -> u8
-    requires { record_at i + record_size ≤ length t.now }
-    ensures { result ≡ purged_of t.now i }
-{
-    byte_of(t, i, layout::PURGED_AT)
-}
-
-// AMBR uplink.
-pub fn uplink(t: &[u8], i: usize) -> u32
-    requires { record_at i + record_size ≤ length t.now }
-    ensures { result ≡ num_at 4 (record_of t.now i) ambr_at }
-{
-    word_of(t, i, layout::AMBR_AT)
-}
-
-// AMBR downlink.
-pub fn downlink(t: &[u8], i: usize) -> u32
-    requires { record_at i + record_size ≤ length t.now }
-    ensures { result ≡ num_at 4 (record_of t.now i) (ambr_at + 4) }
-{
-    word_of(t, i, layout::AMBR_AT + 4)
-}
-
-// ---- stored
+// ---- stored: by the table and the number of the record, since `store` and its promises are said of the whole table
 
 // The bytes `xs` at `at` of record `i`: every value of a correction.
 pub fn store_bytes(t: &mut [u8], i: usize, at: usize, xs: &[u8])
@@ -139,7 +153,7 @@ pub fn store_change(t: &mut [u8], i: usize, v: u32)
     ensures { t.new ≡ store i change_at (be 4 v) t.old }
 {
     let start = record_at(i);
-    wire::number::put_u32(t, start + layout::CHANGE_AT, v);
+    wire::number::put(t, start + layout::CHANGE_AT, v);
 }
 
 fn store_byte(t: &mut [u8], i: usize, at: usize, b: u8)
@@ -157,7 +171,7 @@ fn store_counted(t: &mut [u8], i: usize, at: usize, most: usize, xs: &[u8])
 {
     let from = record_at(i) + at;
     let n = xs.len();
-    let first = wire::number::put_u8(t, from, n as u8);
+    let first = wire::number::put(t, from, n as u8);
     let behind = wire::put::put_bytes(t, first, xs);
     wire::put::put_zeros(t, behind, most - n);
 }
@@ -183,7 +197,7 @@ pub fn store_node(t: &mut [u8], i: usize, at: usize, bit: u8, name: &[u8])
     requires { (record_at i + record_size ≤ length t.old) × (purged_of t.old i < 4) × (at + 1 + most_name ≤ record_size) × (bit < 2) × (length name.now ≤ most_name) }
     ensures { t.new ≡ store_node at bit i name.now t.old }
 {
-    let b = without_bit(bit, purged(t, i));
+    let b = without_bit(bit, Record::at(t, i).purged());
     store_byte(t, i, layout::PURGED_AT, b);
     store_counted(t, i, at, layout::MOST_NAME, name);
 }
@@ -193,7 +207,7 @@ pub fn store_purged(t: &mut [u8], i: usize, bit: u8)
     requires { (record_at i + record_size ≤ length t.old) × (purged_of t.old i < 4) × (bit < 2) }
     ensures { t.new ≡ store_purged bit i t.old }
 {
-    let b = with_bit(bit, purged(t, i));
+    let b = with_bit(bit, Record::at(t, i).purged());
     store_byte(t, i, layout::PURGED_AT, b);
 }
 

@@ -1,35 +1,13 @@
--- Laws of parts of lists and of tests joined by `&&`.
+-- Laws of parts of lists.
 -- Assumes nothing.
-use mathlib.Core.Path.{◌≡◌, refl, sym, ap, ◌∙◌}
-use mathlib.Core.Bool.{Bool, true, false, ◌&&◌, false≢true}
-use mathlib.Core.List.{List, [], ◌∷◌, ◌++◌, append_assoc}
-use Prim.Native.Nat.{ℕ, zero, suc, ◌+◌, ◌-◌, ◌≤◌, ◌<◌}
-use native.Mathlib.Nat.{zero-add, suc-add}
-use native.Mathlib.Numerals.{add-one}
+use mathlib.Core.Path.{◌≡◌, sym, ap, ◌∙◌}
+use mathlib.Core.List.{List, ◌++◌, append_assoc}
+use Prim.Native.Nat.{ℕ, ◌+◌, ◌-◌, ◌≤◌, ◌<◌}
 use native.Mathlib.Omega.{arith}
 use lib.ListN.{length, take, drop, get_or, replicate, length-append, length-take, length-drop, length-replicate, replicate-append-replicate}
-use lib.Seq.{take-suc, take-length, take-nil, take-take, take-add, take_at, drop_at, drop-drop, take-append-le, drop-append-le, drop-append-add, get_or-take, get_or-drop, ext_get_or}
+use lib.Seq.{take-length, take-take, take-add, take_at, drop_at, drop-drop, take-append-le, drop-append-le, drop-append-add, get_or-take, get_or-drop, ext_get_or}
+use Rattle.std.proofs.lemmas.List.{drop-take}
 use Rattle.wire.specs.Put.{part}
-
--- ---- two tests joined
-
-pub and-true-left : (a b : Bool) → a && b ≡ true → a ≡ true
-and-true-left true b e = refl
-and-true-left false b e = absurd (false≢true e)
-
-pub and-true-right : (a b : Bool) → a && b ≡ true → b ≡ true
-and-true-right true b e = e
-and-true-right false b e = absurd (false≢true e)
-
-pub and-true_both : (a b : Bool) → a ≡ true → b ≡ true → a && b ≡ true
-and-true_both a b p q = rw (p, q)
-
-pub and-false-left : (a b : Bool) → a ≡ false → a && b ≡ false
-and-false-left a b e = rw e
-
-pub and-false-right : (a b : Bool) → b ≡ false → a && b ≡ false
-and-false-right true b e = e
-and-false-right false b e = refl
 
 -- ---- parts
 
@@ -42,17 +20,8 @@ get_d_part at n s i h = rw (get_or-take n (drop at s) i 0 h, get_or-drop)
 pub part-whole : (s : List ℕ) → part 0 (length s) s ≡ s
 part-whole s = take-length s
 
--- one element more
-pub part-more : (at n : ℕ) (s : List ℕ) → at + n < length s → part at (n + 1) s ≡ part at n s ++ (get_or s (at + n) 0 ∷ [])
-part-more at n s h = rw (add-one, take-suc (drop at s) n 0 (simp length-drop (omega arith)), get_or-drop)
-
 pub part-split : (at m n : ℕ) (s : List ℕ) → part at (m + n) s ≡ part at m s ++ part (at + m) n s
 part-split at m n s = take-add m n (drop at s) ∙ ap (λ (t : List ℕ). part at m s ++ take n t) (drop-drop m at s)
-
-drop-take : (m n : ℕ) (s : List ℕ) → drop m (take (m + n) s) ≡ take n (drop m s)
-drop-take zero n s = rw zero-add
-drop-take (suc m) n [] = ap (drop (suc m)) (take-nil (suc m + n)) ∙ sym (take-nil n)
-drop-take (suc m) n (x ∷ s) = rw suc-add (drop-take m n s)
 
 -- a part of a part
 pub part-part : (at n at' n' : ℕ) (s : List ℕ) → at' + n' ≤ n → part at' n' (part at n s) ≡ part (at + at') n' s

@@ -1,90 +1,56 @@
 -- Laws of the tests of whole stretches.
 -- Assumes nothing.
 use mathlib.Core.Path.{◌≡◌, refl, sym, ap, ◌∙◌}
-use mathlib.Core.Bool.{Bool, true, false, ◌&&◌, and_assoc, and-true, false≢true, true≢false}
+use mathlib.Core.Bool.{Bool, true, false, ◌&&◌, and_assoc, and-true, false≢true}
 use mathlib.Core.List.{List, [], ◌∷◌, ◌++◌}
 use Prim.Native.Nat.{ℕ, zero, suc, ◌+◌, ◌≤◌, ◌<◌}
 use native.Mathlib.Nat.{le_of_suc-le-suc, not-suc-le-zero}
-use native.Mathlib.Numerals.{add-one}
 use native.Mathlib.Omega.{arith}
-use lib.Dec.{leb, eqb}
+use lib.Dec.{leb}
 use lib.ListN.{length, take, drop, get_or, replicate, length-drop, length-replicate, take-append-drop}
-use lib.Seq.{take-suc, length-take-le}
-use borrow.Author.Tests.{leb-true, le-leb, eqb-true, eq-eqb}
+use lib.Seq.{length-take-le}
+use borrow.Author.Tests.{leb-true, le-leb}
+use Rattle.std.specs.List.{fold, zip}
+use Rattle.std.proofs.Common.{Decides, rules}
+use Rattle.std.proofs.lemmas.Bool.{and_parts, and_from, both_ways, false_from_ne_true}
+use Rattle.std.proofs.lemmas.List.Recursion.{and_at, and_from_places}
+use Rattle.std.proofs.lemmas.Slice.Eq.{compares_Decides}
 use Rattle.wire.specs.Stretch.{same, all_in, between}
-use Rattle.wire.proofs.ListLaws.{and-true-left, and-true-right}
-
--- what a loop gathers, joined as the definitions join it
-gathered : (good a b : Bool) → (good && a) && b ≡ good && ((a && b) && true)
-gathered true a b = sym (and-true (a && b))
-gathered false a b = refl
 
 -- ---- equal stretches
 
-pub same_true : (a b : List ℕ) → same a b ≡ true → a ≡ b
+pub same-decides : (a b : List ℕ) → Decides (same a b) (a ≡ b)
 unfolding same
-same_true [] [] e = refl
-same_true [] (y ∷ ys) e = absurd (false≢true e)
-same_true (x ∷ xs) [] e = absurd (false≢true e)
-same_true (x ∷ xs) (y ∷ ys) e =
-    let h : x ≡ y = eqb-true x y (and-true-left (eqb x y) (same xs ys) e) in
-    let t : xs ≡ ys = same_true xs ys (and-true-right (eqb x y) (same xs ys) e) in
-    rw (h, t)
+same-decides = compares_Decides same (search rules)
 
-pub same_refl : (a : List ℕ) → same a a ≡ true
-unfolding same
-same_refl [] = refl
-same_refl (x ∷ xs) = rw (eq-eqb x x refl) (same_refl xs)
+pub same_true : (a b : List ℕ) → same a b ≡ true → a ≡ b
+same_true a b = (same-decides a b).0
 
 pub same-equal : (a b : List ℕ) → a ≡ b → same a b ≡ true
-same-equal a b e = rw e (same_refl b)
+same-equal a b = (same-decides a b).1
+
+pub same_refl : (a : List ℕ) → same a a ≡ true
+same_refl a = same-equal a a refl
 
 pub same_false : (a b : List ℕ) → same a b ≡ false → a ≡ b → ⊥
-same_false a b e h = true≢false (sym (same-equal a b h) ∙ e)
+same_false a b e h = both_ways (same a b) e (same-equal a b h)
 
 pub same_differ : (a b : List ℕ) → (a ≡ b → ⊥) → same a b ≡ false
-same_differ a b h = go (same a b) refl
-  where
-    go : (t : Bool) → same a b ≡ t → same a b ≡ false
-    go true e = absurd (h (same_true a b e))
-    go false e = e
-
-pub same-append : (a b c d : List ℕ) → length a ≡ length b → same (a ++ c) (b ++ d) ≡ same a b && same c d
-unfolding same
-same-append [] [] c d e = refl
-same-append [] (y ∷ b) c d e = absurd (omega arith)
-same-append (x ∷ a) [] c d e = absurd (omega arith)
-same-append (x ∷ a) (y ∷ b) c d e =
-    ap (λ (t : Bool). eqb x y && t) (same-append a b c d (omega arith)) ∙ sym (and_assoc (eqb x y) (same a b) (same c d))
-
--- a turn of the loop that gathers
-pub same_more : (a b : List ℕ) (j : ℕ) {good : Bool} → j < length a → length a ≡ length b → good ≡ same (take j a) (take j b)
-    → good && eqb (get_or a j 0) (get_or b j 0) ≡ same (take (j + 1) a) (take (j + 1) b)
-unfolding same
-same_more a b j h e g =
-    let hb : j < length b = omega arith in
-    let na : length (take j a) ≡ j = length-take-le j a (omega arith) in
-    let nb : length (take j b) ≡ j = length-take-le j b (omega arith) in
-    rw (g, add-one j, take-suc a j 0 h, take-suc b j 0 hb)
-    (ap (λ (t : Bool). same (take j a) (take j b) && t) (sym (and-true (eqb (get_or a j 0) (get_or b j 0))))
-    ∙ sym (same-append (take j a) (take j b) (get_or a j 0 ∷ []) (get_or b j 0 ∷ []) (na ∙ sym nb)))
+same_differ a b h = false_from_ne_true (same a b) (λ e. h (same_true a b e))
 
 -- ---- stretches within one range
 
 pub all_in-at : (low high : ℕ) (s : List ℕ) → all_in low high s ≡ true → (i : ℕ) → i < length s → (low ≤ get_or s i 0) × (get_or s i 0 ≤ high)
 unfolding all_in
-all_in-at low high [] e i h = absurd (not-suc-le-zero h)
-all_in-at low high (x ∷ s) e zero h =
-    let t = and-true-left (leb low x && leb x high) (all_in low high s) e in
-    (leb-true low x (and-true-left (leb low x) (leb x high) t), leb-true x high (and-true-right (leb low x) (leb x high) t))
-all_in-at low high (x ∷ s) e (suc i) h = all_in-at low high s (and-true-right (leb low x && leb x high) (all_in low high s) e) i (le_of_suc-le-suc h)
+all_in-at low high s e i h =
+    let x = get_or s i 0 in
+    let t = and_parts (leb low x) (leb x high) (and_at (all_in low high) (λ y. leb low y && leb y high) refl (λ _ _. refl) s i 0 h e) in
+    (leb-true low x t.0, leb-true x high t.1)
 
 pub all_in_intro : (low high : ℕ) (s : List ℕ) → ((i : ℕ) → i < length s → (low ≤ get_or s i 0) × (get_or s i 0 ≤ high)) → all_in low high s ≡ true
 unfolding all_in
-all_in_intro low high [] h = refl
-all_in_intro low high (x ∷ s) h =
-    let b = h 0 (omega arith) in
-    rw (le-leb low x b.0, le-leb x high b.1) (all_in_intro low high s (λ i k. h (suc i) (omega arith)))
+all_in_intro low high s h =
+    and_from_places (all_in low high) (λ y. leb low y && leb y high) refl (λ _ _. refl) s 0 (λ i k. and_from _ _ (le-leb low _ (h i k).0) (le-leb _ high (h i k).1))
 
 pub all_in-append : (low high : ℕ) (xs ys : List ℕ) → all_in low high (xs ++ ys) ≡ all_in low high xs && all_in low high ys
 unfolding all_in
@@ -97,10 +63,10 @@ pub all_in-split : (low high n : ℕ) (s : List ℕ) → all_in low high s ≡ a
 all_in-split low high n s = ap (all_in low high) (sym (take-append-drop n s)) ∙ all_in-append low high (take n s) (drop n s)
 
 pub all_in-take : (low high n : ℕ) (s : List ℕ) → all_in low high s ≡ true → all_in low high (take n s) ≡ true
-all_in-take low high n s e = and-true-left (all_in low high (take n s)) (all_in low high (drop n s)) (sym (all_in-split low high n s) ∙ e)
+all_in-take low high n s e = (and_parts (all_in low high (take n s)) (all_in low high (drop n s)) (sym (all_in-split low high n s) ∙ e)).0
 
 pub all_in-drop : (low high n : ℕ) (s : List ℕ) → all_in low high s ≡ true → all_in low high (drop n s) ≡ true
-all_in-drop low high n s e = and-true-right (all_in low high (take n s)) (all_in low high (drop n s)) (sym (all_in-split low high n s) ∙ e)
+all_in-drop low high n s e = (and_parts (all_in low high (take n s)) (all_in low high (drop n s)) (sym (all_in-split low high n s) ∙ e)).1
 
 pub all_in-replicate : (low high n x : ℕ) → low ≤ x → x ≤ high → all_in low high (replicate n x) ≡ true
 unfolding all_in
@@ -116,13 +82,11 @@ all_in-one x (y ∷ s) e =
     let t : s ≡ replicate (length s) x = all_in-one x s (all_in-drop x x 1 (y ∷ s) e) in
     ap (λ (z : ℕ). z ∷ s) h ∙ ap (λ (r : List ℕ). x ∷ r) t
 
--- a turn of the loop that gathers
-pub all_in-more : (low high : ℕ) (s : List ℕ) (j : ℕ) {good : Bool} → j < length s → good ≡ all_in low high (take j s)
-    → (good && leb low (get_or s j 0)) && leb (get_or s j 0) high ≡ all_in low high (take (j + 1) s)
+-- one answer gathered over all bytes
+pub all_in-gathered : (low high : ℕ) (good : Bool) (s : List ℕ) → fold (λ t x. (t && leb low x) && leb x high) good s ≡ good && all_in low high s
 unfolding all_in
-all_in-more low high s j h g =
-    let x = get_or s j 0 in
-    rw (g, add-one j, take-suc s j 0 h) (gathered (all_in low high (take j s)) (leb low x) (leb x high) ∙ sym (all_in-append low high (take j s) (x ∷ [])))
+all_in-gathered low high good [] = sym (and-true good)
+all_in-gathered low high good (x ∷ s) = all_in-gathered low high ((good && leb low x) && leb x high) s ∙ simp and_assoc
 
 -- ---- stretches between bounds
 
@@ -132,9 +96,9 @@ between-at low high [] e i h = absurd (not-suc-le-zero h)
 between-at [] high (x ∷ s) e i h = absurd (false≢true e)
 between-at (b ∷ low) [] (x ∷ s) e i h = absurd (false≢true e)
 between-at (b ∷ low) (t ∷ high) (x ∷ s) e zero h =
-    let w = and-true-left (leb b x && leb x t) (between low high s) e in
-    (leb-true b x (and-true-left (leb b x) (leb x t) w), leb-true x t (and-true-right (leb b x) (leb x t) w))
-between-at (b ∷ low) (t ∷ high) (x ∷ s) e (suc i) h = between-at low high s (and-true-right (leb b x && leb x t) (between low high s) e) i (le_of_suc-le-suc h)
+    let w = (and_parts (leb b x && leb x t) (between low high s) e).0 in
+    (leb-true b x (and_parts (leb b x) (leb x t) w).0, leb-true x t (and_parts (leb b x) (leb x t) w).1)
+between-at (b ∷ low) (t ∷ high) (x ∷ s) e (suc i) h = between-at low high s (and_parts (leb b x && leb x t) (between low high s) e).1 i (le_of_suc-le-suc h)
 
 pub between-append : (low low' high high' s s' : List ℕ) → length s ≡ length low → length s ≡ length high
     → between (low ++ low') (high ++ high') (s ++ s') ≡ between low high s && between low' high' s'
@@ -167,20 +131,14 @@ between_two low high low' high' m n s e =
     ∙ ap (λ (t : Bool). t && between (replicate n low') (replicate n high') (drop m s)) (between-replicate low high m (take m s) nf)
     ∙ ap (λ (t : Bool). all_in low high (take m s) && t) (between-replicate low' high' n (drop m s) nb)
 
--- a turn of the loop that gathers
-pub between_more : (low high s : List ℕ) (j : ℕ) {good : Bool} → j < length s → length s ≡ length low → length s ≡ length high
-    → good ≡ between (take j low) (take j high) (take j s)
-    → (good && leb (get_or low j 0) (get_or s j 0)) && leb (get_or s j 0) (get_or high j 0) ≡ between (take (j + 1) low) (take (j + 1) high) (take (j + 1) s)
+-- one answer gathered over all bytes and their bounds
+pub between-gathered : (low high : List ℕ) (good : Bool) (s : List ℕ) → length s ≡ length low → length s ≡ length high
+    → fold (λ t p. (t && leb p.0.1 p.0.0) && leb p.0.0 p.1) good (zip (zip s low) high) ≡ good && between low high s
 unfolding between
-between_more low high s j h e f g =
-    let x = get_or s j 0 in
-    let l = get_or low j 0 in
-    let u = get_or high j 0 in
-    let hl : j < length low = omega arith in
-    let hh : j < length high = omega arith in
-    let ns : length (take j s) ≡ j = length-take-le j s (omega arith) in
-    let nl : length (take j low) ≡ j = length-take-le j low (omega arith) in
-    let nh : length (take j high) ≡ j = length-take-le j high (omega arith) in
-    rw (g, add-one j, take-suc s j 0 h, take-suc low j 0 hl, take-suc high j 0 hh)
-    (gathered (between (take j low) (take j high) (take j s)) (leb l x) (leb x u)
-    ∙ sym (between-append (take j low) (l ∷ []) (take j high) (u ∷ []) (take j s) (x ∷ []) (ns ∙ sym nl) (ns ∙ sym nh)))
+between-gathered [] [] good [] e f = sym (and-true good)
+between-gathered (l ∷ low) high good [] e f = absurd (omega arith)
+between-gathered [] (h ∷ high) good [] e f = absurd (omega arith)
+between-gathered [] high good (x ∷ s) e f = absurd (omega arith)
+between-gathered (l ∷ low) [] good (x ∷ s) e f = absurd (omega arith)
+between-gathered (l ∷ low) (h ∷ high) good (x ∷ s) e f =
+    between-gathered low high ((good && leb l x) && leb x h) s (omega arith) (omega arith) ∙ simp and_assoc

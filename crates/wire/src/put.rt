@@ -7,12 +7,9 @@ pub fn put_bytes(out: &mut [u8], at: usize, src: &[u8]) -> usize
     requires { at + length src.now ≤ length out.old }
     ensures { Wrote out.old at src.now out.new result }
 {
-    let mut j = 0;
-    while j < src.len() {
-        out[at + j] = src[j];
-        j += 1;
-    }
-    at + j
+    let end = at + src.len();
+    out[at..end].copy_from_slice(src);
+    end
 }
 
 // `n` zeros at `at`.
@@ -20,10 +17,7 @@ pub fn put_zeros(out: &mut [u8], at: usize, n: usize) -> usize
     requires { at + n ≤ length out.old }
     ensures { Wrote out.old at (replicate n 0) out.new result }
 {
-    let mut j = 0;
-    while j < n {
-        out[at + j] = 0;
-        j += 1;
-    }
-    at + j
+    let end = at + n;
+    out[at..end].fill(0);
+    end
 }

@@ -1,10 +1,17 @@
 -- `correct` meets its contract: what was judged is carried out.
 -- Assumes nothing.
-use Rattle.correction.proofs.JudgeLaws.{refused_came_to, accepted_came_to}
+use Rattle.std.proofs.Common.{Ok, ap, ◌∙◌}
+use Rattle.std.proofs.lemmas.Result.{err_from_is_err_and}
+use Rattle.paper.specs.Correction.{accepted, refused}
+use Rattle.correction.specs.Refusal.{came_to}
 use Rattle.correction.proofs.correct.Goals as goal
 
-pub returns-in-Refused : goal.returns-in-Refused
-returns-in-Refused c = refused_came_to c.judge.ensures _ c.in-Refused.is
+pub returns-in_err-accepted : goal.returns-in_err-accepted
+unfolding refused
+returns-in_err-accepted c =
+    let p = err_from_is_err_and c.from_residual.result c.from_residual.ensures.1 in
+    rw (p.1, p.2) c.in_err-accepted.ensures.outcome
 
-pub returns-in-Accepted : goal.returns-in-Accepted
-returns-in-Accepted c = accepted_came_to c.judge.ensures _ _ c.in-Accepted.is c.store_correction.ensures
+pub returns : goal.returns
+unfolding accepted
+returns c = ap (came_to (Ok tt)) c.store_correction.ensures ∙ c.in_ok-accepted.ensures.outcome

@@ -8,4 +8,4 @@ pub returns : goal.returns
 returns c =
     let p = c.requires in
     wrote-same (header_parts c.args.n c.args.flags c.args.m.now p.2 (omega arith))
-    (wrote_then (omega arith) c.put_u32-a.ensures (wrote_then (omega arith) c.put_u8-b.ensures c.put_bytes.ensures))
+    (wrote_then (omega arith) c.put-a.ensures (wrote_then (omega arith) c.put-b.ensures c.put_bytes.ensures))

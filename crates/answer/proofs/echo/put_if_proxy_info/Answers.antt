@@ -1,22 +1,22 @@
 -- `answer::echo::put_if_proxy_info` meets its contract. Assumes nothing.
-use mathlib.Core.Path.{ap}
+use mathlib.Core.Path.{ap, ◌∙◌}
 use native.Mathlib.Omega.{arith}
 use lib.ListN.{length}
-use Rattle.wire.proofs.PutLaws.{wrote-same, wrote_nothing}
-use Rattle.answer.proofs.EchoLaws.{copied_proxy, copied-other, data_most}
+use Rattle.avp.proofs.WriteLaws.{appended-same, appended_nothing}
+use Rattle.answer.proofs.EchoLaws.{proxy_tested, copied_proxy, copied-other, data_most}
 use Rattle.answer.proofs.echo.put_if_proxy_info.Goals as goal
 
 pub put_avp-requires : goal.put_avp-requires
 put_avp-requires c =
     let d = c.data.ensures in
-    let e = ap length (copied_proxy c.args.s.now c.args.a c.if-a.true d) in
+    let e = ap length (copied_proxy c.args.s.now c.args.a (proxy_tested c.args.a c.key.ensures c.eq.ensures ∙ c.if-eq.true) d) in
     let n = ap length d in
     let m = data_most c.args.s.now c.args.a in
     (omega arith, omega arith)
 
-pub returns-then-a : goal.returns-then-a
-returns-then-a c =
-    wrote-same (copied_proxy _ _ c.if-a.true c.data.ensures) c.put_avp.ensures
+pub returns-then-eq : goal.returns-then-eq
+returns-then-eq c = appended-same (copied_proxy _ _ (proxy_tested c.args.a c.key.ensures c.eq.ensures ∙ c.if-eq.true) c.data.ensures) c.put_avp.ensures
 
-pub returns-else-a : goal.returns-else-a
-returns-else-a c = wrote-same (copied-other _ _ c.if-a.false) (wrote_nothing _ _)
+pub returns-else-eq : goal.returns-else-eq
+returns-else-eq c =
+    appended-same (copied-other _ _ (proxy_tested c.args.a c.key.ensures c.eq.ensures ∙ c.if-eq.false)) (appended_nothing _ (omega (arith, c.requires.2)))

@@ -1,16 +1,11 @@
--- `answer::echo::put_proxy_infos` meets its contract. The loop's invariant: what stands at `at` and the Proxy-Infos from the cursor on are all of them;
--- the measure is what is left of the stretch. Assumes nothing.
-use mathlib.Core.Path.{◌≡◌}
-use Prim.Native.Nat.{◌-◌}
-use lib.ListN.{length}
+-- `answer::echo::put_proxy_infos` meets its contract. The loop's invariant: what was written and the Proxy-Infos that the walk has left are all of them.
+-- Assumes nothing.
 use Rattle.paper.specs.Reader.{avps}
 use Rattle.paper.specs.Profile.{proxy_info}
 use Rattle.paper.specs.Answer.{each_of}
-use Rattle.answer.proofs.EchoLaws.{Copied, from}
+use Rattle.avp.specs.Walk.{left}
+use Rattle.answer.proofs.EchoLaws.{Copied, copies, AllInside}
 use Rattle.answer.proofs.echo.put_proxy_infos.Given as goal
 
-abbrev pub invariant-loop-avp : goal.invariant-loop-avp
-invariant-loop-avp l = Copied l.initial.out l.at (each_of proxy_info (avps 0 l.s)) (from l.s l.c.at) l.out l.o × (length l.out ≡ length l.initial.out)
-
-abbrev pub decreases-loop-avp : goal.decreases-loop-avp
-decreases-loop-avp l = length l.s - l.c.at
+abbrev pub invariant-loop-a : goal.invariant-loop-a
+invariant-loop-a l = Copied l.initial.out (each_of proxy_info (avps 0 l.s)) (copies l.s (left l.a-iterator)) l.out × AllInside l.s (left l.a-iterator)

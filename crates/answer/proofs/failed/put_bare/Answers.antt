@@ -1,6 +1,6 @@
 -- `answer::failed::put_bare` meets its contract. Assumes nothing.
 use native.Mathlib.Omega.{arith}
-use Rattle.wire.proofs.PutLaws.{wrote-same}
+use Rattle.avp.proofs.WriteLaws.{appended-same}
 use Rattle.answer.proofs.FailedLaws.{cut_head, length-bare}
 use Rattle.answer.proofs.failed.put_bare.Goals as goal
 
@@ -11,4 +11,4 @@ put_as_received-requires c =
 
 pub returns : goal.returns
 returns c =
-    wrote-same (cut_head _ c.get_cut-code.ensures.value c.byte_or_zero-flags.ensures c.vendor_or_zero-vendor.ensures) c.put_as_received.ensures
+    appended-same (cut_head _ c.get_cut-code.ensures.value c.byte_or_zero-flags.ensures c.vendor_or_zero-vendor.ensures) c.put_as_received.ensures

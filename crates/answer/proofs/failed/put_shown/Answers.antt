@@ -2,18 +2,9 @@
 use mathlib.Core.Path.{ap}
 use native.Mathlib.Omega.{arith}
 use lib.ListN.{length, length-take, length-drop}
-use Rattle.wire.proofs.PutLaws.{wrote-same, wrote_nothing}
-use Rattle.answer.proofs.FailedLaws.{shown-nothing, shown-whole, shown-bare, shown-missing, readable-whole, readable-bare}
+use Rattle.avp.proofs.WriteLaws.{appended-same}
+use Rattle.answer.proofs.FailedLaws.{shown-whole, shown-bare, shown-missing, readable-whole}
 use Rattle.answer.proofs.failed.put_shown.Goals as goal
-
-pub slice_bounds-put_whole-count : goal.slice_bounds-put_whole-count
-slice_bounds-put_whole-count c = let r = readable-whole c.args.m.now c.in-Whole.is c.requires.1 in omega arith
-
-pub slice_bounds-put_whole-start : goal.slice_bounds-put_whole-start
-slice_bounds-put_whole-start c = let r = readable-whole c.args.m.now c.in-Whole.is c.requires.1 in omega arith
-
-pub slice_bounds-put_whole-end : goal.slice_bounds-put_whole-end
-slice_bounds-put_whole-end c = let r = readable-whole c.args.m.now c.in-Whole.is c.requires.1 in omega arith
 
 pub put_whole-requires : goal.put_whole-requires
 put_whole-requires c =
@@ -21,23 +12,11 @@ put_whole-requires c =
     let e = ap length (shown-whole c.args.m.now c.in-Whole.is) in
     (simp (length-take, length-drop) (omega arith), r.1, omega arith)
 
-pub slice_bounds-put_bare-count : goal.slice_bounds-put_bare-count
-slice_bounds-put_bare-count c = let r = readable-bare c.args.m.now c.in-Bare.is c.requires.1 in omega arith
-
-pub slice_bounds-put_bare-start : goal.slice_bounds-put_bare-start
-slice_bounds-put_bare-start c = let r = readable-bare c.args.m.now c.in-Bare.is c.requires.1 in omega arith
-
-pub slice_bounds-put_bare-end : goal.slice_bounds-put_bare-end
-slice_bounds-put_bare-end c = let r = readable-bare c.args.m.now c.in-Bare.is c.requires.1 in omega arith
-
-pub returns-in-Nothing : goal.returns-in-Nothing
-returns-in-Nothing c = wrote-same (shown-nothing _ c.in-Nothing.is) (wrote_nothing _ _)
-
 pub returns-in-Whole : goal.returns-in-Whole
-returns-in-Whole c = wrote-same (shown-whole _ c.in-Whole.is) c.put_whole.ensures
+returns-in-Whole c = appended-same (shown-whole _ c.in-Whole.is) c.put_whole.ensures
 
 pub returns-in-Bare : goal.returns-in-Bare
-returns-in-Bare c = wrote-same (shown-bare _ c.in-Bare.is) c.put_bare.ensures
+returns-in-Bare c = appended-same (shown-bare _ c.in-Bare.is) c.put_bare.ensures
 
 pub returns-in-Missing : goal.returns-in-Missing
-returns-in-Missing c = wrote-same (shown-missing _ c.in-Missing.is) c.put_absent.ensures
+returns-in-Missing c = appended-same (shown-missing _ c.in-Missing.is) c.put_absent.ensures

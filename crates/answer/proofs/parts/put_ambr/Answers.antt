@@ -1,24 +1,36 @@
 -- `answer::parts::put_ambr` meets its contract. Assumes nothing.
+use mathlib.Core.Bool.{true}
 use native.Mathlib.Omega.{arith}
-use Rattle.paper.specs.Profile.{ambr, bandwidth_uplink, bandwidth_downlink}
-use Rattle.answer.proofs.PartLaws.{number_3gpp, head_3gpp, pair_3gpp, wrote_pair}
+use Rattle.paper.specs.Profile.{bandwidth_uplink, bandwidth_downlink}
+use Rattle.avp.proofs.WriteLaws.{head_size_for, appended_then, group_ask, appended_group}
+use Rattle.answer.proofs.PartLaws.{number_3gpp, pair-fours}
 use Rattle.answer.proofs.parts.put_ambr.Goals as goal
 
-pub put_group_head-a-requires : goal.put_group_head-a-requires
-put_group_head-a-requires c = (omega arith, rw (head_3gpp 1435 32) (omega arith))
-
-pub put_number-b-requires : goal.put_number-b-requires
-put_number-b-requires c = let p = rw head_3gpp at c.put_group_head-a.ensures.next in rw number_3gpp (omega arith)
+pub open_group-start-requires : goal.open_group-start-requires
+open_group-start-requires c = let h = head_size_for 10415 true in omega arith
 
 pub put_number-requires : goal.put_number-requires
 put_number-requires c =
-    let p = rw head_3gpp at c.put_group_head-a.ensures.next in
-    let q = rw number_3gpp at c.put_number-b.ensures.next in
-    rw number_3gpp (omega arith)
+    let h = head_size_for 10415 true in
+    let o = c.open_group-start.ensures.opened in
+    rw number_3gpp (omega (arith, o.at, o.size))
+
+pub put_number-requires-2 : goal.put_number-requires-2
+put_number-requires-2 c =
+    let h = head_size_for 10415 true in
+    let o = c.open_group-start.ensures.opened in
+    let n = rw number_3gpp at c.put_number.ensures.wrote.next in
+    rw number_3gpp (omega (arith, o.at, o.size, n, c.put_number.ensures.size))
+
+pub close_group-requires : goal.close_group-requires
+close_group-requires c =
+    let h = head_size_for 10415 true in
+    let o = c.open_group-start.ensures in
+    let n = rw number_3gpp at c.put_number.ensures.wrote.next in
+    let k = rw number_3gpp at c.put_number-2.ensures.wrote.next in
+    group_ask 10415 o.start o.opened (appended_then c.put_number.ensures c.put_number-2.ensures) (omega (arith, o.start, o.opened.at, n, k))
 
 pub returns : goal.returns
 returns c =
-    let h = rw head_3gpp at c.put_group_head-a.ensures.next in
-    let p = c.requires in
-    wrote_pair ambr bandwidth_uplink bandwidth_downlink c.args.uplink c.args.downlink 32 (pair_3gpp 516 515 c.args.uplink c.args.downlink) (omega arith) (omega arith)
-    c.put_group_head-a.ensures c.put_number-b.ensures c.put_number.ensures
+    let o = c.open_group-start.ensures in
+    appended_group 10415 1435 _ (pair-fours bandwidth_uplink bandwidth_downlink c.args.uplink c.args.downlink) o.start o.opened (appended_then c.put_number.ensures c.put_number-2.ensures) c.close_group.ensures

@@ -1,26 +1,38 @@
 -- `answer::parts::put_experimental` meets its contract. Assumes nothing.
+use mathlib.Core.Bool.{true}
 use native.Mathlib.Omega.{arith}
-use Rattle.paper.specs.Profile.{experimental_result, vendor_id, experimental_result_code}
 use Rattle.paper.specs.Answer.{result_item}
-use Rattle.answer.proofs.PartLaws.{number-base, head_base, pair_base, wrote_pair}
+use Rattle.paper.specs.Profile.{vendor_id, experimental_result_code}
+use Rattle.avp.proofs.WriteLaws.{head_size_for, appended_then, group_ask, appended_group}
+use Rattle.answer.proofs.PartLaws.{number-base, pair-fours}
 use Rattle.answer.proofs.parts.put_experimental.Goals as goal
 
-pub put_group_head-a-requires : goal.put_group_head-a-requires
-put_group_head-a-requires c = (omega arith, rw (head_base 297 24) (omega arith))
-
-pub put_number-b-requires : goal.put_number-b-requires
-put_number-b-requires c = let p = rw head_base at c.put_group_head-a.ensures.next in rw number-base (omega arith)
+pub open_group-start-requires : goal.open_group-start-requires
+open_group-start-requires c = let h = head_size_for 0 true in omega arith
 
 pub put_number-requires : goal.put_number-requires
 put_number-requires c =
-    let p = rw head_base at c.put_group_head-a.ensures.next in
-    let q = rw number-base at c.put_number-b.ensures.next in
-    rw number-base (omega arith)
+    let h = head_size_for 0 true in
+    let o = c.open_group-start.ensures.opened in
+    rw number-base (omega (arith, o.at, o.size))
+
+pub put_number-requires-2 : goal.put_number-requires-2
+put_number-requires-2 c =
+    let h = head_size_for 0 true in
+    let o = c.open_group-start.ensures.opened in
+    let n = rw number-base at c.put_number.ensures.wrote.next in
+    rw number-base (omega (arith, o.at, o.size, n, c.put_number.ensures.size))
+
+pub close_group-requires : goal.close_group-requires
+close_group-requires c =
+    let h = head_size_for 0 true in
+    let o = c.open_group-start.ensures in
+    let n = rw number-base at c.put_number.ensures.wrote.next in
+    let k = rw number-base at c.put_number-2.ensures.wrote.next in
+    group_ask 0 o.start o.opened (appended_then c.put_number.ensures c.put_number-2.ensures) (omega (arith, o.start, o.opened.at, n, k))
 
 pub returns : goal.returns
 unfolding result_item
 returns c =
-    let h = rw head_base at c.put_group_head-a.ensures.next in
-    let p = c.requires in
-    wrote_pair experimental_result vendor_id experimental_result_code 10415 c.args.code.0 24 (pair_base 266 298 10415 c.args.code.0) (omega arith) (omega arith)
-    c.put_group_head-a.ensures c.put_number-b.ensures c.put_number.ensures
+    let o = c.open_group-start.ensures in
+    appended_group 0 297 _ (pair-fours vendor_id experimental_result_code 10415 c.args.code.0) o.start o.opened (appended_then c.put_number.ensures c.put_number-2.ensures) c.close_group.ensures

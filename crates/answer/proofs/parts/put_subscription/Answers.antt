@@ -1,35 +1,49 @@
--- `answer::parts::put_subscription` meets its contract: the parts, then the header in front of them. Assumes nothing.
-use mathlib.Core.Path.{refl}
+-- `answer::parts::put_subscription` meets its contract. Assumes nothing.
+use mathlib.Core.Bool.{true}
 use native.Mathlib.Omega.{arith}
-use Rattle.wire.proofs.PutLaws.{wrote_then, wrote-same}
-use Rattle.paper.specs.Profile.{subscription_data}
-use Rattle.answer.proofs.PartLaws.{number_3gpp, head_3gpp, restriction_most, length-ambr, subscription_parts, subscription-fours, subscription-item, wrote_closed}
+use Rattle.avp.proofs.WriteLaws.{head_size_for, appended_then, appended-same, group_ask, appended_group}
+use Rattle.answer.proofs.PartLaws.{number_3gpp, restriction_most, length-ambr, subscription-fours, subscription-item}
 use Rattle.answer.proofs.parts.put_subscription.Goals as goal
 
-pub put_number-a-requires : goal.put_number-a-requires
-put_number-a-requires c = rw number_3gpp (omega arith)
+pub open_group-start-requires : goal.open_group-start-requires
+open_group-start-requires c = let h = head_size_for 10415 true in omega arith
 
-pub put_restriction-b-requires : goal.put_restriction-b-requires
-put_restriction-b-requires c = let n = rw number_3gpp at c.put_number-a.ensures.next in omega arith
+pub put_number-requires : goal.put_number-requires
+put_number-requires c =
+    let h = head_size_for 10415 true in
+    let o = c.open_group-start.ensures.opened in
+    rw number_3gpp (omega (arith, o.at, o.size))
 
-pub put_ambr-end-requires : goal.put_ambr-end-requires
-put_ambr-end-requires c =
-    let n = rw number_3gpp at c.put_number-a.ensures.next in
-    let r = restriction_most c.args.restriction in
-    omega arith
+pub put_restriction-requires : goal.put_restriction-requires
+put_restriction-requires c =
+    let h = head_size_for 10415 true in
+    let o = c.open_group-start.ensures.opened in
+    let n = rw number_3gpp at c.put_number.ensures.wrote.next in
+    omega (arith, o.at, o.size, n, c.put_number.ensures.size)
 
-pub put_group_head-requires : goal.put_group_head-requires
-put_group_head-requires c =
-    let n = rw number_3gpp at c.put_number-a.ensures.next in
-    let r = restriction_most c.args.restriction in
-    let m = length-ambr c.args.uplink c.args.downlink in
-    (omega arith, rw head_3gpp (omega arith))
+pub put_ambr-requires : goal.put_ambr-requires
+put_ambr-requires c =
+    let h = head_size_for 10415 true in
+    let o = c.open_group-start.ensures.opened in
+    let n = rw number_3gpp at c.put_number.ensures.wrote.next in
+    let r = restriction_most c.args.subscription.restriction in
+    omega (arith, o.at, o.size, n, c.put_number.ensures.size, c.put_restriction.ensures.wrote.next, c.put_restriction.ensures.size)
+
+pub close_group-requires : goal.close_group-requires
+close_group-requires c =
+    let h = head_size_for 10415 true in
+    let o = c.open_group-start.ensures in
+    let x = c.args.subscription in
+    let n = rw number_3gpp at c.put_number.ensures.wrote.next in
+    let r = restriction_most x.restriction in
+    let m = length-ambr x.uplink x.downlink in
+    group_ask 10415 o.start o.opened (appended_then c.put_number.ensures (appended_then c.put_restriction.ensures c.put_ambr.ensures))
+    (omega (arith, o.start, o.opened.at, n, c.put_restriction.ensures.wrote.next, c.put_ambr.ensures.wrote.next))
 
 pub returns : goal.returns
 returns c =
-    let x = c.args in
-    let n = rw number_3gpp at c.put_number-a.ensures.next in
-    let r = restriction_most x.restriction in
-    wrote-same (subscription-item x.restriction x.uplink x.downlink)
-    (wrote_closed subscription_data (subscription_parts x.restriction x.uplink x.downlink) (subscription-fours x.restriction x.uplink x.downlink) refl (omega arith)
-    (wrote_then (omega arith) c.put_number-a.ensures (wrote_then (omega arith) c.put_restriction-b.ensures c.put_ambr-end.ensures)) c.put_group_head.ensures)
+    let o = c.open_group-start.ensures in
+    let x = c.args.subscription in
+    appended-same (subscription-item x.restriction x.uplink x.downlink)
+    (appended_group 10415 1400 _ (subscription-fours x.restriction x.uplink x.downlink) o.start o.opened
+    (appended_then c.put_number.ensures (appended_then c.put_restriction.ensures c.put_ambr.ensures)) c.close_group.ensures)

@@ -4,13 +4,7 @@ use native.Mathlib.Omega.{arith}
 use Rattle.avp.proofs.FieldLaws.{head_with_v}
 use Rattle.avp.proofs.cursor.vendor_at.Goals as goal
 
-pub get_u32-requires : goal.get_u32-requires
-get_u32-requires c =
+pub get-requires : goal.get-requires
+get-requires c =
     let h = head_with_v c.args.flags (sym c.has_v.ensures ∙ c.if-has_v.true) in
     omega arith
-
-pub returns-then-has_v : goal.returns-then-has_v
-returns-then-has_v c = rw (sym c.has_v.ensures ∙ c.if-has_v.true) c.get_u32.ensures
-
-pub returns-else-has_v : goal.returns-else-has_v
-returns-else-has_v c = rw (sym c.has_v.ensures ∙ c.if-has_v.false)

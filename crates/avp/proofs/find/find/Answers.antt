@@ -1,32 +1,18 @@
--- `avp::find::find` meets its contract. The loop's invariant: the first of the key is the first from the cursor on; the measure is what is left
--- of the stretch. Assumes nothing.
-use mathlib.Core.Path.{sym, ap, ◌∙◌}
-use Rattle.paper.specs.Find.{first_of}
-use Rattle.avp.specs.Found.{found_at}
-use Rattle.avp.proofs.StepLaws.{item_falls}
-use Rattle.avp.proofs.FindLaws.{walk_start, found-item, find-end, find_bad, find-here, find-later}
+-- `avp::find::find` meets its contract: the first in the list that the walk gives is the paper's. Assumes nothing.
+use mathlib.Core.Path.{sym, ◌∙◌}
+use borrow.Author.Rules.{rules}
+use borrow.Author.Tests.{tests}
+use Rattle.std.proofs.lemmas.Iterator.Adapters.{option_map_id}
+use Rattle.std.proofs.lemmas.Iterator.Consumers.{YieldsList-from_first}
+use Rattle.std.proofs.lemmas.Iterator.Search.{find_from_yields_List}
+use Rattle.avp.specs.Walk.{left}
+use Rattle.avp.proofs.WalkLaws.{keyed, find-first}
 use Rattle.avp.proofs.find.find.Goals as goal
 
-pub loop-avp-init : goal.loop-avp-init
-loop-avp-init c = ap (first_of _ _) (walk_start _ c.new-c.ensures)
-
-pub returns-in-End : goal.returns-in-End
-returns-in-End c =
-    sym (ap (found_at _) (c.loop-avp.invariant ∙ find-end _ _ _ _ c.in-End.ensures))
-
-pub returns-in-Bad : goal.returns-in-Bad
-returns-in-Bad c =
-    sym (ap (found_at _) (c.loop-avp.invariant ∙ find_bad _ _ _ _ c.in-Bad.ensures))
-
-pub returns-then-has_key : goal.returns-then-has_key
-returns-then-has_key c =
-    let e = c.in-Item.ensures in
-    sym (ap (found_at _) (c.loop-avp.invariant ∙ find-here _ _ _ _ e (sym c.has_key.ensures ∙ c.if-has_key.true)) ∙ found-item _ _ e)
-
-pub loop-avp-smaller : goal.loop-avp-smaller
-loop-avp-smaller c =
-    item_falls _ _ c.in-Item.ensures
-
-pub loop-avp-preserved : goal.loop-avp-preserved
-loop-avp-preserved c =
-    c.loop-avp.invariant ∙ find-later _ _ _ _ c.in-Item.ensures (sym c.has_key.ensures ∙ c.if-has_key.false)
+pub returns : goal.returns
+returns c =
+    let k = c.args.key in
+    let all = YieldsList-from_first (λ x. x) left {s = c.new.result} _ c.new.ensures in
+    sym (option_map_id c.find.result)
+    ∙ find_from_yields_List (keyed k.vendor k.code) c.find.new.self _ c.find.result c.find.ensures.ran all (λ x b q r. search (rules, tests))
+    ∙ find-first _ _ _

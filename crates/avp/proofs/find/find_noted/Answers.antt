@@ -1,16 +1,14 @@
--- `avp::find::find_noted` meets its contract. Assumes nothing.
-use mathlib.Core.Path.{ap, ◌∙◌}
-use Prim.Native.Nat.{ℕ}
-use lib.ListN.{get_or}
-use Rattle.dictionary.specs.Rows.{key_of}
-use Rattle.avp.specs.Found.{index_of}
-use Rattle.avp.proofs.SecondLaws.{member_index}
-use Rattle.avp.proofs.NotedLaws.{noted_found}
+-- `avp::find::find_noted` meets its contract: the place that is noted leads to the AVP, and no place says that there is none. Assumes nothing.
+use mathlib.Core.Path.{sym, ◌∙◌}
+use Rattle.avp.proofs.NotedLaws.{noted_found, noted_nothing}
 use Rattle.avp.proofs.find.find_noted.Goals as goal
 
-pub returns-then-i-keys : goal.returns-then-i-keys
-returns-then-i-keys c =
-    let e = c.index_of-i.ensures ∙ ap (λ (x : ℕ). index_of x c.args.keys.now) c.key_of.ensures.value in
-    let m = member_index (key_of c.args.vendor c.args.code) c.args.keys.now (rw e at c.if-i-keys.true) in
-    let p = c.requires.first c.args.vendor c.args.code c.key_of.ensures.code_bound m in
-    c.found_at.ensures ∙ noted_found _ c.args.vendor c.args.code (ap (λ (j : ℕ). get_or c.args.places.now j 0) e ∙ p)
+pub returns-in_err-places : goal.returns-in_err-places
+returns-in_err-places c =
+    let p = c.requires.first _ _ c.in-Some.i c.in-Some.ensures.code_bound (sym c.in-Some.ensures.index) in
+    c.from_residual.ensures ∙ noted_nothing _ _ (sym c.in_err-places.was ∙ p)
+
+pub returns : goal.returns
+returns c =
+    let p = c.requires.first _ _ c.in-Some.i c.in-Some.ensures.code_bound (sym c.in-Some.ensures.index) in
+    c.found_at.ensures ∙ noted_found _ _ _ (sym c.in_ok-places.was ∙ p)

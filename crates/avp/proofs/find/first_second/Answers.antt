@@ -1,47 +1,31 @@
--- `avp::find::first_second` meets its contract. The loop's invariant: the walk stands at the cursor, the flags saying which keys were met; the
--- measure is what is left of the stretch. Assumes nothing.
+-- `avp::find::first_second` meets its contract. The loop's invariant: the search goes on in what the walk has left, the flags saying which keys were met.
+-- Assumes nothing.
 use mathlib.Core.Path.{refl, sym, ap, ◌∙◌}
-use native.Mathlib.Omega.{arith}
 use lib.ListN.{length-set}
-use Rattle.avp.specs.Found.{found_at}
-use Rattle.avp.proofs.StepLaws.{item_falls}
-use Rattle.avp.proofs.FindLaws.{found-item}
-use Rattle.avp.proofs.SecondLaws.{walked_start, second-end, second_bad, second-other, second-here, second_mark}
+use native.Mathlib.Omega.{arith}
+use Rattle.avp.specs.Walk.{left}
+use Rattle.avp.proofs.WalkLaws.{second-first}
+use Rattle.avp.proofs.SecondLaws.{walked_start, second_over, second-other, second-here, second_mark}
 use Rattle.avp.proofs.find.first_second.Goals as goal
 
 pub loop-avp-init : goal.loop-avp-init
-loop-avp-init c = (walked_start _ _ 16 c.new-c.ensures, refl)
-
-pub returns-in-End : goal.returns-in-End
-returns-in-End c =
-    sym (ap (found_at _) (second-end _ _ _ _ c.loop-avp.invariant.0 c.in-End.ensures))
-
-pub returns-in-Bad : goal.returns-in-Bad
-returns-in-Bad c =
-    sym (ap (found_at _) (second_bad _ _ _ _ c.loop-avp.invariant.0 c.in-Bad.ensures))
+loop-avp-init c = (walked_start _ 16 (ap left c.into_iter-avp-iterator.ensures.into_iter_gives ∙ c.new-avp-items.ensures), refl)
 
 pub returns-then-met-i : goal.returns-then-met-i
 returns-then-met-i c =
-    let e = c.in-Item.ensures in
-    let s = second-here _ _ _ _ c.loop-avp.invariant.0 e c.index_of-i.ensures c.key_of.ensures.value c.if-i-keys.true c.if-met-i.true in
-    sym (ap (found_at _) s ∙ found-item _ _ e)
+    let i = c.in-Some-index_of.ensures.index in
+    sym (second-here _ _ _ c.loop-avp.invariant.0 c.in-Some.ensures.steps c.key.ensures i c.if-met-i.true) ∙ second-first _ _
 
-pub loop-avp-smaller-else-met-i : goal.loop-avp-smaller-else-met-i
-loop-avp-smaller-else-met-i c =
-    item_falls _ _ c.in-Item.ensures
-
-pub loop-avp-preserved-else-met-i : goal.loop-avp-preserved-else-met-i
-loop-avp-preserved-else-met-i c =
-    let e = c.in-Item.ensures in
+pub loop-avp-preserved-in-Some-index_of : goal.loop-avp-preserved-in-Some-index_of
+loop-avp-preserved-in-Some-index_of c =
     let w = c.loop-avp.invariant in
-    (second_mark _ _ _ _ w.0 e c.index_of-i.ensures c.key_of.ensures.value c.if-i-keys.true (omega arith) c.if-met-i.false, simp length-set w.1)
-
-pub loop-avp-smaller : goal.loop-avp-smaller
-loop-avp-smaller c =
-    item_falls _ _ c.in-Item.ensures
+    let i = c.in-Some-index_of.ensures.index in
+    (second_mark _ _ _ w.0 c.in-Some.ensures.steps c.key.ensures i (omega arith) c.if-met-i.false, simp length-set w.1)
 
 pub loop-avp-preserved : goal.loop-avp-preserved
 loop-avp-preserved c =
-    let e = c.in-Item.ensures in
     let w = c.loop-avp.invariant in
-    (second-other _ _ _ _ w.0 e c.index_of-i.ensures c.key_of.ensures.value c.if-i-keys.false, w.1)
+    (second-other _ _ _ w.0 c.in-Some.ensures.steps c.key.ensures c.in_default.ensures.index, w.1)
+
+pub returns : goal.returns
+returns c = sym (second_over _ _ _ c.loop-avp.invariant.0 c.in-None.ensures.steps.0) ∙ second-first _ _

@@ -1,11 +1,7 @@
--- `frame_right` meets its contract: whole, of the right size, of version 1.
+-- `frame_right` meets its contract: a frame without its head is not right.
 -- Assumes nothing.
-use Rattle.dymosaw.proofs.DeskLaws.{frame-short, frame_tested}
+use Rattle.dymosaw.proofs.DeskLaws.{frame-short}
 use Rattle.dymosaw.proofs.desk.frame_right.Goals as goal
 
 pub returns-then-frame-lt-DESK_HEAD : goal.returns-then-frame-lt-DESK_HEAD
 returns-then-frame-lt-DESK_HEAD c = frame-short c.args.frame.now c.if-frame-lt-DESK_HEAD.true
-
-pub returns : goal.returns
-returns c =
-    frame_tested c.args.frame.now c.get_u32-whole.ensures c.size_right.ensures

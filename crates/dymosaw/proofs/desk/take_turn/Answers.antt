@@ -1,28 +1,23 @@
--- `take_turn` meets its contract: a right frame by its kind, another ends the run.
+-- `take_turn` meets its contract: a frame of no kind ends the run, a request and a correction leave the table where it stands.
 -- Assumes nothing.
-use mathlib.Core.Bool.{not}
-use mathlib.Core.Path.{ap}
-use Rattle.std.proofs.Common.{take, sym, ◌∙◌, rules}
-use borrow.Author.Tests.{not-true, not-false}
-use Rattle.paper.proofs.DeskLaws.{frame_parts}
-use Rattle.dymosaw.proofs.DeskLaws.{made_as, turn-right, turn-wrong}
+use Rattle.std.proofs.Common.{take, ◌∙◌, length-take-le, rules}
+use Rattle.dymosaw.specs.declared.desk.Kind.TheVariants.{Request, Correction}
+use Rattle.dymosaw.proofs.DeskLaws.{made-there, made-ended, last_plain, kind_taken}
 use Rattle.dymosaw.proofs.desk.take_turn.Goals as goal
 
-pub returns-then-not-frame_right : goal.returns-then-not-frame_right
-returns-then-not-frame_right c =
-    let x = c.args in
-    made_as (turn-wrong (take x.used x.buffer.now) x.frame.now (sym c.frame_right.ensures ∙ not-true c.frame_right.result (ap not c.if-not-frame_right.true))) c.last_turn.ensures
+pub returns-in_default : goal.returns-in_default
+returns-in_default c =
+    let t = take c.args.used c.args.buffer.now in
+    made-ended (search rules) (last_plain t c.plain.ensures ∙ c.in_default.ensures t)
 
-pub bounds-frame-5 : goal.bounds-frame-5
-bounds-frame-5 c = let l = ((frame_parts c.args.frame.now (sym c.frame_right.ensures ∙ not-false c.frame_right.result (ap not c.if-not-frame_right.false))).long) in search rules
+pub returns-in-Request : goal.returns-in-Request
+returns-in-Request c =
+    let b = c.args.buffer.now in
+    let n = c.args.used in
+    made-there (c.request_line-line.auto.table ∙ length-take-le n b (search rules)) (c.request_line-line.ensures ∙ kind_taken c.args.frame.now (take n b) Request c.in-Request.is c.in-Some.ensures)
 
-pub slice_bounds-kind_turn-count : goal.slice_bounds-kind_turn-count
-slice_bounds-kind_turn-count c = ((frame_parts c.args.frame.now (sym c.frame_right.ensures ∙ not-false c.frame_right.result (ap not c.if-not-frame_right.false))).long)
-
-pub slice_bounds-kind_turn-start : goal.slice_bounds-kind_turn-start
-slice_bounds-kind_turn-start c = let l = ((frame_parts c.args.frame.now (sym c.frame_right.ensures ∙ not-false c.frame_right.result (ap not c.if-not-frame_right.false))).long) in search rules
-
-pub returns : goal.returns
-returns c =
-    let x = c.args in
-    made_as (turn-right (take x.used x.buffer.now) x.frame.now (sym c.frame_right.ensures ∙ not-false c.frame_right.result (ap not c.if-not-frame_right.false))) c.kind_turn.ensures
+pub returns-in-Correction : goal.returns-in-Correction
+returns-in-Correction c =
+    let b = c.args.buffer.now in
+    let n = c.args.used in
+    made-there (c.correction_line-line.auto.table ∙ length-take-le n b (search rules)) (c.correction_line-line.ensures ∙ kind_taken c.args.frame.now (take n b) Correction c.in-Correction.is c.in-Some.ensures)

@@ -4,8 +4,8 @@ use Rattle.dymosaw.specs.Serve.{lent}
 use Rattle.dymosaw.proofs.ServeLaws.{refused-is, answered-is}
 use Rattle.dymosaw.proofs.serve.dymosaw_request.Goals as goal
 
-pub returns-in-Refused : goal.returns-in-Refused
-returns-in-Refused c = let said = c.serve.ensures in record { is = refused-is (lent c.args.table.now c.args.request.now c.args.host.now c.args.realm.now c.args.answer.now c.args.cancel.now) said.comes_to _ c.in-Refused.is; bytes = said.bytes }
+pub returns-in-Ok-clause-is : goal.returns-in-Ok-clause-is
+returns-in-Ok-clause-is c = answered-is (lent c.args.table.now c.args.request.now c.args.host.now c.args.realm.now c.args.answer.now c.args.cancel.now) c.serve.ensures.comes_to _ c.in-Ok.is
 
-pub returns-in-Answered : goal.returns-in-Answered
-returns-in-Answered c = let said = c.serve.ensures in record { is = answered-is (lent c.args.table.now c.args.request.now c.args.host.now c.args.realm.now c.args.answer.now c.args.cancel.now) said.comes_to _ _ _ c.in-Answered.is; bytes = said.bytes }
+pub returns-in-Err-clause-is : goal.returns-in-Err-clause-is
+returns-in-Err-clause-is c = refused-is (lent c.args.table.now c.args.request.now c.args.host.now c.args.realm.now c.args.answer.now c.args.cancel.now) c.serve.ensures.comes_to _ c.in-Err.is cc

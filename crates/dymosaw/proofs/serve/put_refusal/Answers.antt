@@ -12,4 +12,4 @@ put_answer-length-requires c = c.requires.0
 
 pub returns : goal.returns
 returns c =
-    λ t. answered_came _ t [] c.args.verdict _ (reply_said _ _ _ _ _) refl c.put_answer-length.ensures c.no_entries.ensures
+    λ t. answered_came _ t [] c.args.reply.verdict _ (reply_said _ _ _ _ _) refl c.put_answer-length.ensures c.no_entries.ensures

@@ -7,14 +7,13 @@ use Rattle.procedures.proofs.cancel.list_notified.Goals as goal
 
 pub overflow_sub-end : goal.overflow_sub-end
 overflow_sub-end c =
-    let k = cancel_list-size c.args.t.now c.args.i c.requires.0 c.args.host.now c.args.slot (type_of c.args.how) c.requires.1 in
+    let k = cancel_list-size c.args.subscriber c.args.host.now c.args.node (type_of c.args.how) in
     omega (arith, c.list_cancelled-end.ensures.next)
 
 pub put_zeros-requires : goal.put_zeros-requires
 put_zeros-requires c =
-    let k = cancel_list-size c.args.t.now c.args.i c.requires.0 c.args.host.now c.args.slot (type_of c.args.how) c.requires.1 in
-    omega (arith, c.list_cancelled-end.ensures.next, c.requires.2)
+    let k = cancel_list-size c.args.subscriber c.args.host.now c.args.node (type_of c.args.how) in
+    omega (arith, c.list_cancelled-end.ensures.next, c.requires)
 
 pub returns : goal.returns
-returns c =
-    one-listed c.args.t.now c.args.i c.requires.0 c.args.host.now c.args.slot (type_of c.args.how) c.requires.1 c.list_cancelled-end.ensures c.put_zeros.ensures
+returns c = one-listed c.args.subscriber c.args.host.now c.args.node (type_of c.args.how) c.list_cancelled-end.ensures c.put_zeros.ensures

@@ -8,5 +8,6 @@ use Rattle.procedures.proofs.cancel.put_entry.Goals as goal
 pub returns : goal.returns
 unfolding entry_bytes
 returns c =
-    wrote_then (omega arith) c.put_bytes-first.ensures
-    (wrote_then (omega arith) c.put_bytes-behind.ensures c.put_zeros.ensures)
+    rw (← c.number.ensures, ← c.number-2.ensures)
+    (wrote_then (omega arith) c.put_bytes-first.ensures
+    (wrote_then (omega arith) c.put_bytes-behind.ensures c.put_zeros.ensures))

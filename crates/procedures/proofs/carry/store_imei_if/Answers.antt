@@ -6,4 +6,6 @@ use Rattle.procedures.proofs.NodeLaws.{held_inside}
 use Rattle.procedures.proofs.carry.store_imei_if.Goals as goal
 
 pub store_imei-requires : goal.store_imei-requires
-store_imei-requires c = (held_inside c.args.t.now c.args.i c.requires.0, imei-size c.args.imei.now (imei-sizes c.args.imei.now (c.requires.1 c.if-there.true)))
+store_imei-requires c =
+    let digits = rw c.in-Some.is at c.requires.1 in
+    (held_inside c.args.t.now c.args.i c.requires.0, imei-size c.in-Some.digits.now (imei-sizes c.in-Some.digits.now digits))

@@ -1,26 +1,20 @@
 -- `procedures::verdict::verdict` meets its contract. The values are those of the request, by command: what refuses each is what refuses the request.
 -- Assumes nothing.
-use mathlib.Core.Path.{sym, ◌∙◌}
+use mathlib.Core.Path.{◌∙◌}
+use Rattle.std.proofs.Common.{rules}
 use Rattle.paper.specs.Table.{record_of}
-use Rattle.procedures.proofs.AskedLaws.{ruled_update, ruled-stranger, ruled-known, ruled-other}
+use Rattle.procedures.proofs.AskedLaws.{ruled_update, ruled-stranger, ruled-other}
 use Rattle.procedures.proofs.verdict.verdict.Goals as goal
 
-pub returns-then-asked-eq-ULR : goal.returns-then-asked-eq-ULR
-returns-then-asked-eq-ULR c =
+pub returns-in-316 : goal.returns-in-316
+returns-in-316 c =
     λ m e q p.
-    ruled_update m c.args.asked e c.args.plmn.now (record_of c.args.t.now c.args.i) c.if-asked-eq-ULR.true p c.update_verdict.ensures
+    ruled_update m c.args.asked e c.args.plmn.now (record_of c.args.t.now c.args.i) c.of.ensures c.in-316.is p (c.update_verdict.ensures ∙ rw c.at-subscriber.ensures)
 
-pub returns-then-is_stranger : goal.returns-then-is_stranger
-returns-then-is_stranger c =
+pub returns-in-323 : goal.returns-in-323
+returns-in-323 c =
     λ m e q p.
-    ruled-stranger m c.args.asked e c.args.host.now (record_of c.args.t.now c.args.i) c.if-asked-eq-NOR.true q (sym c.is_stranger.ensures ∙ c.if-is_stranger.true)
+    ruled-stranger m c.args.asked e c.args.host.now (record_of c.args.t.now c.args.i) c.in-323.is q (c.refuse_if.ensures ∙ rw (c.is_stranger.ensures, c.at-subscriber.ensures))
 
-pub returns-else-is_stranger : goal.returns-else-is_stranger
-returns-else-is_stranger c =
-    λ m e q p.
-    ruled-known m c.args.asked e c.args.host.now (record_of c.args.t.now c.args.i) c.if-asked-eq-NOR.true q (sym c.is_stranger.ensures ∙ c.if-is_stranger.false)
-
-pub returns-else-asked-eq-NOR : goal.returns-else-asked-eq-NOR
-returns-else-asked-eq-NOR c =
-    λ m e q p.
-    ruled-other m c.args.asked e (record_of c.args.t.now c.args.i) c.if-asked-eq-ULR.false c.if-asked-eq-NOR.false
+pub returns-in_default : goal.returns-in_default
+returns-in_default c = λ m e q p. ruled-other m c.args.asked e (record_of c.args.t.now c.args.i) (search rules) (search rules)

@@ -1,17 +1,10 @@
--- `reader::header::read_header` meets its contract, field by field. Assumes nothing.
-use lib.ListN.{get_or}
-use Rattle.reader.specs.Header.{header_of}
+-- `reader::header::read_header` meets its contract. Assumes nothing.
+use Rattle.std.proofs.Common.{◌∙◌, refl}
+use Rattle.reader.proofs.HeaderLaws.{header-whole, header-cut}
 use Rattle.reader.proofs.header.read_header.Goals as goal
 
-pub returns : goal.returns
-unfolding header_of
-returns c =
-    λ i. record {
-      version = get_or c.args.m.now 0 0;
-      length = c.get_u24.ensures.value i;
-      flags = get_or c.args.m.now 4 0;
-      command = c.get_u24-2.ensures.value i;
-      application = c.get_u32.ensures i;
-      hop_by_hop = c.get_u32-2.ensures i;
-      end_to_end = c.get_u32-3.ensures i;
-    }
+pub returns-in-Some : goal.returns-in-Some
+returns-in-Some c = c.whole_header.ensures ∙ header-whole _ c.in-Some.ensures.cases.same
+
+pub returns-in-None : goal.returns-in-None
+returns-in-None c = c.whole_header-in-None.ensures ∙ header-cut _ _ refl c.copy_from_slice.ensures.after

@@ -3,7 +3,7 @@
 -- The loop's invariant: what is told of the stretch is what was told so far, joined with what is told from the cursor on. Its measure is what is
 -- left of the stretch. Assumes nothing.
 use Rattle.std.proofs.Common.{◌≡◌, ◌+◌, ◌-◌, ◌*◌, length}
-use Rattle.dictionary.specs.Rows.{kind_in}
+use Rattle.dictionary.specs.Rows.{kind_of}
 use Rattle.paper.specs.Reader.{join}
 use Rattle.reader.specs.Visit.{told_of}
 use Rattle.reader.proofs.VisitLaws.{told_from}
@@ -17,7 +17,7 @@ decreases-visit_list l = 2 * l.left + 1
 
 abbrev pub invariant-visit_list-loop-told : goal.invariant-visit_list-loop-told
 invariant-visit_list-loop-told l =
-    told_of (kind_in l.keys l.kinds) l.left l.base l.s ≡ join l.told (told_from (kind_in l.keys l.kinds) l.left l.base l.s l.c.at)
+    told_of kind_of l.left l.base l.s ≡ join l.told (told_from kind_of l.left l.base l.s l.c.at)
 
 abbrev pub decreases-visit_list-loop-told : goal.decreases-visit_list-loop-told
 decreases-visit_list-loop-told l = length l.s - l.c.at

@@ -1,24 +1,20 @@
 -- `reader::visit::joined` meets its contract, by cases. Assumes nothing.
-use mathlib.Core.Path.{sym, ap, ap₂}
+use mathlib.Core.Path.{sym, ap, ap₂, ◌∙◌}
 use Rattle.paper.specs.Reader.{join}
+use Rattle.reader.proofs.VisitLaws.{join-kept}
 use Rattle.reader.proofs.visit.joined.Goals as goal
 
-pub returns-in-Clean : goal.returns-in-Clean
+pub returns-in-Clean-default : goal.returns-in-Clean-default
 unfolding join
-returns-in-Clean c = sym (ap (λ v. join v c.args.b) c.in-Clean.is)
+returns-in-Clean-default c = sym (ap (λ v. join v c.args.b) c.in-Clean-default.is-0)
 
-pub returns-in-Fault : goal.returns-in-Fault
+pub returns-in-Unsupported-Fault : goal.returns-in-Unsupported-Fault
 unfolding join
-returns-in-Fault c = sym (ap (λ v. join v c.args.b) c.in-Fault.is)
+returns-in-Unsupported-Fault c = c.in-Unsupported-Fault.is-1 ∙ sym (ap₂ join c.in-Unsupported-Fault.is-0 c.in-Unsupported-Fault.is-1)
 
-pub returns-in-Clean-b : goal.returns-in-Clean-b
-unfolding join
-returns-in-Clean-b c = sym (ap₂ join c.in-Unsupported.is c.in-Clean-b.is)
+pub returns-in_default : goal.returns-in_default
+returns-in_default c = c.in_default.is-0 ∙ join-kept c.args.b c.in_default.not-Fault-1 ∙ ap (λ v. join v c.args.b) (sym c.in_default.is-0)
 
-pub returns-in-Fault-b : goal.returns-in-Fault-b
+pub returns-in_default-2 : goal.returns-in_default-2
 unfolding join
-returns-in-Fault-b c = sym (ap₂ join c.in-Unsupported.is c.in-Fault-b.is)
-
-pub returns-in-Unsupported-b : goal.returns-in-Unsupported-b
-unfolding join
-returns-in-Unsupported-b c = sym (ap₂ join c.in-Unsupported.is c.in-Unsupported-b.is)
+returns-in_default-2 c = c.in_default.is-0 ∙ sym (ap (λ v. join v c.args.b) c.in_default.is-0)

@@ -1,12 +1,8 @@
 -- `request::accept::value_of` meets its contract. Assumes nothing.
-use Rattle.paper.specs.Request.{avps_of, find, value_of}
-use Rattle.request.specs.Profile.{key_at}
-use Rattle.paper.proofs.ShownLaws.{top-standing}
-use Rattle.request.proofs.HeldLaws.{sought_span}
+use mathlib.Core.Path.{◌∙◌}
+use Rattle.paper.specs.Request.{value_of}
 use Rattle.request.proofs.accept.value_of.Goals as goal
 
 pub returns : goal.returns
 unfolding value_of
-returns c =
-    let key = key_at c.args.key in
-    sought_span _ (find key (avps_of c.args.m.now)) (top-standing _ c.requires.0 key) c.find_top.ensures c.span_of.ensures
+returns c = c.data_of.ensures ∙ c.find_top.ensures.value

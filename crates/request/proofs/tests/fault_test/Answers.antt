@@ -1,13 +1,10 @@
 -- `request::tests::fault_test` meets its contract. Assumes nothing.
 use mathlib.Core.Path.{sym, ◌∙◌}
-use Rattle.request.proofs.TestLaws.{fault_answers, fault-fine, clean_fine}
+use Rattle.request.proofs.TestLaws.{fault_answers, fault-fine}
 use Rattle.request.proofs.tests.fault_test.Goals as goal
 
 pub returns-in-Fault : goal.returns-in-Fault
-returns-in-Fault c = λ m l e. rw c.fails_with.ensures (fault_answers m l (sym c.in-Fault.is ∙ e))
+returns-in-Fault c = λ e. rw c.mute.ensures (fault_answers _ c.args.noted.now.whole (sym c.in-Fault.is ∙ e))
 
-pub returns-in-Unsupported : goal.returns-in-Unsupported
-returns-in-Unsupported c = λ m l e. fault-fine m (sym c.in-Unsupported.is ∙ e)
-
-pub returns-in-Clean : goal.returns-in-Clean
-returns-in-Clean c = λ m l e. clean_fine m (sym c.in-Clean.is ∙ e)
+pub returns-in_default : goal.returns-in_default
+returns-in_default c = λ e. fault-fine _ e c.in_default.not-Fault

@@ -1,26 +1,15 @@
 -- `request::tests::second_used` meets its contract. Assumes nothing.
-use native.Mathlib.Omega.{arith}
-use lib.Seq.{length-take-le}
-use Rattle.request.proofs.JudgeLaws.{used-length, second_of_used}
+use Rattle.request.proofs.JudgeLaws.{second_of_used, second_of_none}
 use Rattle.request.proofs.NotedLaws.{no_second-used}
 use Rattle.request.proofs.tests.second_used.Goals as goal
 
-pub returns-then-not-again : goal.returns-then-not-again
-returns-then-not-again c = no_second-used _ c.requires.0 (c.requires.1 c.if-not-again.true)
+pub returns-then-not-noted : goal.returns-then-not-noted
+returns-then-not-noted c = no_second-used _ _ c.args.noted.now.own (c.args.noted.now.unrepeated c.if-not-noted.true)
 
-pub slice_bounds-all-end : goal.slice_bounds-all-end
-slice_bounds-all-end c = c.keys_of-keys.ensures.used_fits
-
-pub slice_bounds-second_in-end : goal.slice_bounds-second_in-end
-slice_bounds-second_in-end c = used-length _ c.keys_of-keys.ensures
-
-pub second_in-requires : goal.second_in-requires
-second_in-requires c =
-    let k = c.keys_of-keys.ensures in
-    let u = k.used_fits in
-    let w = k.few in
-    (c.all_avps.ensures.inside, rw (length-take-le _ _ u) (omega arith))
+pub returns-in_err-command : goal.returns-in_err-command
+returns-in_err-command c = rw c.from_residual.ensures (second_of_none _ c.args.noted.now.own c.in_err-command.was)
 
 pub returns : goal.returns
 returns c =
-    second_of_used _ c.requires.0 c.keys_of-keys.ensures c.all_avps.ensures c.second_in.ensures
+    let l = c.avps_of.ensures in
+    second_of_used _ c.args.noted.now.own c.in_ok-command.was _ c.used.ensures.listed l.at l.bytes c.second.ensures

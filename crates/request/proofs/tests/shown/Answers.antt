@@ -1,5 +1,5 @@
 -- `request::tests::shown` meets its contract. Assumes nothing.
 use Rattle.request.proofs.tests.shown.Goals as goal
 
-pub returns-in-At : goal.returns-in-At
-returns-in-At c = rw c.in-At.is c.fails_with.ensures
+pub returns-in-Some : goal.returns-in-Some
+returns-in-Some c = rw (c.in-Some.is, c.refuse.ensures)

@@ -5,4 +5,4 @@ use Rattle.table.proofs.lookup.count_of.Goals as goal
 
 pub returns : goal.returns
 unfolding count_of
-returns c = c.get_u16.ensures
+returns c = c.get.ensures.value

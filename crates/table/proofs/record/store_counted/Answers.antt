@@ -14,5 +14,5 @@ unfolding store
 returns c =
     let t = c.args.t.now in
     let xs = c.args.xs.now in
-    counted-written (c.record_at.result + c.args.at) c.args.most _ _ _ xs t _ _ _ (omega (arith, c.requires, c.record_at.ensures)) (omega (arith, c.requires)) c.put_u8-first.ensures c.put_bytes-behind.ensures c.put_zeros.ensures
+    counted-written (c.record_at.result + c.args.at) c.args.most _ _ _ xs t _ _ _ (omega (arith, c.requires, c.record_at.ensures)) (omega (arith, c.requires)) c.put-first.ensures c.put_bytes-behind.ensures c.put_zeros.ensures
     ∙ ap (λ (k : ℕ). put (k + c.args.at) (filled c.args.most xs) t) c.record_at.ensures

@@ -1,25 +1,12 @@
 -- `filled_part` meets its contract: between the windows is within the range, then zero.
 -- Assumes nothing.
-use mathlib.Core.Path.{ap, ◌∙◌}
-use native.Mathlib.Omega.{arith}
-use lib.ListN.{length}
-use Rattle.table.proofs.BoundLaws.{length-bound, lent_window}
+use Rattle.std.proofs.Common.{arith}
+use Rattle.table.specs.Bounds.{first_of}
+use Rattle.table.proofs.BoundLaws.{lent_window}
 use Rattle.table.proofs.valid.filled_part.Goals as goal
-
-pub slice_bounds-between_bounds-end-2 : goal.slice_bounds-between_bounds-end-2
-slice_bounds-between_bounds-end-2 c =
-    let p = c.requires in
-    let n = ap length p.3 ∙ length-bound _ in
-    omega arith
-
-pub slice_bounds-between_bounds-end-3 : goal.slice_bounds-between_bounds-end-3
-slice_bounds-between_bounds-end-3 c =
-    let p = c.requires in
-    let n = ap length p.4 ∙ length-bound _ in
-    omega arith
 
 pub returns : goal.returns
 returns c =
     let a = c.args in
     let p = c.requires in
-    c.between_bounds.ensures ∙ lent_window a.at a.most a.n a.r.now a.low.now a.high.now p.0 p.1 p.2 p.3 p.4
+    rw (c.between_bounds.ensures, c.as_flattened-low.ensures.value, c.as_flattened-high.ensures.value) (lent_window a.at a.most a.n (first_of a.range.low.now) (first_of a.range.high.now) a.r.now a.range.low.now a.range.high.now (omega (arith, c.told-r, p.0)) p.1 p.2 a.range.low_bounds a.range.high_bounds)

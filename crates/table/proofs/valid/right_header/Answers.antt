@@ -25,4 +25,4 @@ unfolding header_right
 returns c =
     let t = c.args.t.now in
     let few : count_of t ≤ most_records = rw c.count_of-n.ensures at c.if-n-gt-MOST_RECORDS.false in
-    rw (c.get_u32-said.ensures, c.count_of-n.ensures, le-leb table_header _ c.if-t-lt-TABLE_HEADER.false, le-leb (count_of t) most_records few) (simp and_assoc)
+    rw (c.get-said.ensures.value, c.count_of-n.ensures, le-leb table_header _ c.if-t-lt-TABLE_HEADER.false, le-leb (count_of t) most_records few) (simp and_assoc)

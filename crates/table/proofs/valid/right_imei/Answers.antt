@@ -1,28 +1,29 @@
--- `right_imei` meets its contract: the count, then the filled field.
+-- `right_imei` meets its contract: one of the three counts, then the counted field, whose own bound they keep.
 -- Assumes nothing.
-use mathlib.Core.Path.{sym}
-use mathlib.Core.Bool.{or_assoc}
-use Prim.Native.Nat.{ℕ, ◌<◌}
-use native.Mathlib.Omega.{arith}
+use mathlib.Core.Bool.{Bool, true, false, or_assoc, ◌||◌, ◌&&◌}
+use Prim.Native.Nat.{ℕ}
+use lib.Dec.{leb, eqb}
 use lib.ListN.{get_or}
-use borrow.Author.Tests.{ne_eqb}
-use borrow.Author.Rules.{rules}
+use Rattle.std.proofs.Common.{◌≡◌, refl, sym, ◌∙◌, arith}
+use Rattle.std.proofs.lemmas.Bool.Decides.{nat_tests}
 use Rattle.paper.specs.Table.{counted, imei_right}
-use Rattle.table.proofs.BoundLaws.{is_bound, bounds_named}
 use Rattle.table.proofs.valid.right_imei.Goals as goal
 
-pub returns-then-n-gt-MOST_DIGITS : goal.returns-then-n-gt-MOST_DIGITS
+few : (n : ℕ) → (eqb n 0 || eqb n 14) || eqb n 15 ≡ true → leb n 15 ≡ true
+few n e = grind (arith, nat_tests)
+
+one-of : (n : ℕ) (b : Bool) → (eqb n 0 || eqb n 14) || eqb n 15 ≡ true → b ≡ (eqb n 0 || (eqb n 14 || eqb n 15)) && b
+one-of n b e = let f = sym (or_assoc (eqb n 0) (eqb n 14) (eqb n 15)) ∙ e in rw f refl
+
+none-of : (n : ℕ) (b : Bool) → (eqb n 0 || eqb n 14) || eqb n 15 ≡ false → (eqb n 0 || eqb n 14) || eqb n 15 ≡ (eqb n 0 || (eqb n 14 || eqb n 15)) && b
+none-of n b e = let f = sym (or_assoc (eqb n 0) (eqb n 14) (eqb n 15)) ∙ e in rw f e
+
+pub returns-then-n : goal.returns-then-n
 unfolding imei_right counted
-returns-then-n-gt-MOST_DIGITS c =
+returns-then-n c =
     let n : ℕ = get_or c.args.r.now 204 0 in
-    let h : 15 < n = c.if-n-gt-MOST_DIGITS.true in
-    sym (rw (ne_eqb n 0 (λ e. omega arith), ne_eqb n 14 (λ e. omega arith), ne_eqb n 15 (λ e. omega arith)))
+    rw (few n c.if-n.true) at c.right_counted.ensures ∙ one-of n _ c.if-n.true
 
-pub filled_part-requires : goal.filled_part-requires
-filled_part-requires c =
-    (search rules, c.if-n-gt-MOST_DIGITS.false, search rules, is_bound 48 c.args.low.now c.requires.1, is_bound 57 c.args.high.now c.requires.2)
-
-pub returns : goal.returns
+pub returns-else-n : goal.returns-else-n
 unfolding imei_right counted
-returns c =
-    rw (or_assoc, bounds_named 48 57 c.args.low.now c.args.high.now _ _ c.requires.1 c.requires.2 c.filled_part.ensures)
+returns-else-n c = none-of (get_or c.args.r.now 204 0) _ c.if-n.false

@@ -1,12 +1,9 @@
--- `get_cut` meets its contract. The loop's invariant: `v` is the number that the `k` bytes read so far are.
+-- `get_cut` meets its contract. The loop's invariant: `v` is the number that the bytes read so far are.
 -- Assumes nothing.
 use mathlib.Core.Path.{◌≡◌}
-use Prim.Native.Nat.{◌-◌, ◌^◌, ◌≤◌, ◌<◌}
+use Prim.Native.Nat.{◌^◌, ◌<◌}
 use Rattle.wire.specs.Number.{num_at}
 use Rattle.wire.proofs.number.get_cut.Given as goal
 
 abbrev pub invariant-loop-k : goal.invariant-loop-k
-invariant-loop-k l = (l.k ≤ l.width) × (l.v ≡ num_at l.k l.s l.at) × (l.v < 256 ^ l.k)
-
-abbrev pub decreases-loop-k : goal.decreases-loop-k
-decreases-loop-k l = l.width - l.k
+invariant-loop-k l = (l.v ≡ num_at l.k l.s l.at) × (l.v < 256 ^ l.k)

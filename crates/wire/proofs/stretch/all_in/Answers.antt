@@ -1,23 +1,16 @@
--- `all_in_lem` meets its contract. The loop's invariant: `good` is the answer of the first `j` bytes.
+-- `all_in` meets its contract: what the fold gathers over the bytes is the definition.
 -- Assumes nothing.
-use mathlib.Core.Path.{◌≡◌, refl}
-use native.Mathlib.Omega.{arith}
-use lib.ListN.{length}
-use lib.Seq.{take-length}
-use Rattle.wire.specs.Stretch.{all_in}
-use Rattle.wire.proofs.StretchLaws.{all_in-more}
-use borrow.Author.Rules.{rules}
+use mathlib.Core.Path.{◌∙◌}
+use mathlib.Core.Bool.{true, ◌&&◌}
+use lib.Dec.{leb}
+use Rattle.std.proofs.Common.{rules, tests}
+use Rattle.std.proofs.lemmas.Iterator.{YieldsList-from_slice}
+use Rattle.std.proofs.lemmas.Iterator.Consumers.{fold_from_yields_List}
+use Rattle.wire.proofs.StretchLaws.{all_in-gathered}
 use Rattle.wire.proofs.stretch.all_in.Goals as goal
-
-pub loop-j-init : goal.loop-j-init
-unfolding all_in
-loop-j-init c = (search rules, refl)
-
-pub loop-j-preserved : goal.loop-j-preserved
-loop-j-preserved c =
-    (search rules, all_in-more _ _ _ c.loop-j.j c.loop-j-test.true c.loop-j.invariant.1)
 
 pub returns : goal.returns
 returns c =
-    let e : c.loop-j.j ≡ length c.args.s.now = omega arith in
-    rw (e, take-length) at c.loop-j.invariant.1
+    let a = c.args in
+    let gathered = fold_from_yields_List _ (λ t x. (t && leb a.low x) && leb x a.high) true _ c.fold.ensures.ran (YieldsList-from_slice a.s.now cc) (λ t x r q k. search (rules, tests)) in
+    gathered ∙ all_in-gathered a.low a.high true a.s.now

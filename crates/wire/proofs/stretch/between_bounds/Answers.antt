@@ -1,23 +1,18 @@
--- `between_bounds` meets its contract. The loop's invariant: `good` is the answer of the first `j` bytes.
+-- `between_bounds` meets its contract: what the fold gathers over the bytes and their bounds is the definition.
 -- Assumes nothing.
-use mathlib.Core.Path.{refl}
-use native.Mathlib.Omega.{arith}
-use lib.Seq.{take_all}
-use Rattle.wire.specs.Stretch.{between}
-use Rattle.wire.proofs.StretchLaws.{between_more}
-use borrow.Author.Rules.{rules}
+use mathlib.Core.Path.{◌∙◌}
+use mathlib.Core.Bool.{true, ◌&&◌}
+use lib.Dec.{leb}
+use Rattle.std.proofs.Common.{rules, tests}
+use Rattle.std.proofs.lemmas.Iterator.{YieldsList-from_slice, YieldsList-from_zip}
+use Rattle.std.proofs.lemmas.Iterator.Consumers.{fold_from_yields_List}
+use Rattle.wire.proofs.StretchLaws.{between-gathered}
 use Rattle.wire.proofs.stretch.between_bounds.Goals as goal
-
-pub loop-j-init : goal.loop-j-init
-unfolding between
-loop-j-init c = (search rules, refl)
-
-pub loop-j-preserved : goal.loop-j-preserved
-loop-j-preserved c =
-    (search rules, between_more _ _ _ c.loop-j.j c.loop-j-test.true c.requires.0 c.requires.1 c.loop-j.invariant.1)
 
 pub returns : goal.returns
 returns c =
     let a = c.args in
-    let j = c.loop-j.j in
-    rw (take_all j a.s.now (omega arith), take_all j a.low.now (omega arith), take_all j a.high.now (omega arith)) at c.loop-j.invariant.1
+    let gathered =
+    fold_from_yields_List _ (λ t p. (t && leb p.0.1 p.0.0) && leb p.0.0 p.1) true _ c.fold.ensures.ran
+    (YieldsList-from_zip (YieldsList-from_zip (YieldsList-from_slice a.s.now cc) (YieldsList-from_slice a.low.now cc)) (YieldsList-from_slice a.high.now cc)) (λ t x r q k. search (rules, tests)) in
+    gathered ∙ between-gathered a.low.now a.high.now true a.s.now c.requires.0 c.requires.1

@@ -25,4 +25,4 @@ vendor_at-vendor-requires c = omega arith
 pub returns : goal.returns
 unfolding padded
 returns c =
-    step_item _ _ (omega arith) (omega arith) (omega arith) c.get_u32-code.ensures c.vendor_at-vendor.ensures (omega arith) (omega arith) (omega arith)
+    step_item _ _ (omega arith) (omega arith) (omega arith) c.get-code.ensures.value c.vendor_at-vendor.ensures (omega arith) (omega arith) (omega arith)

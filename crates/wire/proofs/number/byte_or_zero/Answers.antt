@@ -1,8 +1,0 @@
--- `byte_or_zero` meets its contract: past the end the list reads 0.
--- Assumes nothing.
-use mathlib.Core.Path.{sym}
-use lib.ListN.{get_or-eq_default}
-use Rattle.wire.proofs.number.byte_or_zero.Goals as goal
-
-pub returns-else-at-s : goal.returns-else-at-s
-returns-else-at-s c = sym (get_or-eq_default c.args.s.now 0 c.if-at-s.false)
