@@ -15,7 +15,7 @@ pub struct Own<'a> {
 }
 
 // What the request came to.
-#[derive(Clone, Copy)]
+#[derive(Clone, Copy, Debug, PartialEq, Eq)]
 pub struct Reply {
     pub verdict: Verdict,
     // What Failed-AVP shows, if anything.

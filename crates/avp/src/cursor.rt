@@ -29,7 +29,7 @@ pub struct Cursor {
     pub at: usize,
 }
 
-// What stands at a cursor.
+// What stands at a cursor. Three outcomes, none of which is an error: dymosaw's public `read_avp` answers it, and the promises name its cases.
 #[derive(Clone, Copy, Debug, PartialEq, Eq)]
 pub enum Step {
     // An AVP that lies inside the stretch, and the cursor behind its padding.

@@ -9,6 +9,7 @@ use dymosaw::desk::{Desk, LENGTH_SIZE, LINE_ROOM, MOST_FRAME, TABLE_ROOM};
 use std::io::{Read, Stdin, Stdout, Write};
 
 // Reads until the buffer is full, the input ends or a read fails, and returns how many bytes it put at the buffer's start.
+// std's `read_exact` does not say how much it got where the input ends.
 fn read_full(input: &mut Stdin, buffer: &mut [u8]) -> usize
     ensures { result ≤ length buffer.new }
 {

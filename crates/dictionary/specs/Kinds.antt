@@ -1,9 +1,9 @@
--- What each case of Kind stands for: its number in the arrays, and what document 01 ("The reader") says of the data of such an AVP.
+-- What each case of Kind stands for: a number of its own, and what document 01 ("The reader") says of the data of such an AVP.
 use Rattle.std.specs.Prelude.{Bool, true, cond, ℕ, eqb}
 use Rattle.dictionary.specs.declared.Kind.{Kind}
 use Rattle.dictionary.specs.declared.Kind.TheVariants.{Four, Eight, Any, Group, Closed, Unknown}
 
--- the number of a kind: its data's size where that is fixed; no row holds 255
+-- the number of a kind: its data's size where that is fixed
 abbrev pub number_of : Kind → ℕ
 number_of Four = 4
 number_of Eight = 8

@@ -42,7 +42,8 @@ pub enum Kind {
     Correction,
 }
 
-// Where a run stands: how many bytes of the buffer are the table, and the number of the frame that comes.
+// Where a run stands: how many bytes of the buffer are the table, and the number of the frame that comes. The buffer
+// holds the largest table, since there is no heap, and a caller keeps both between two steps.
 #[derive(Clone, Copy, Debug, PartialEq, Eq)]
 pub struct Desk {
     pub used: usize,
@@ -50,7 +51,7 @@ pub struct Desk {
 }
 
 // What a frame came to: what its line says, and how many bytes of the buffer are the table that the run goes on with, if it does.
-#[derive(Clone, Copy)]
+#[derive(Clone, Copy, Debug, PartialEq, Eq)]
 pub struct Turned {
     pub line: Line,
     pub used: Option<usize>,
@@ -222,7 +223,8 @@ pub fn first() -> Desk
     }
 }
 
-// How many bytes of a frame stand behind its length field; 0 where that says no right size or was not read whole.
+// How many bytes of a frame stand behind its length field; 0 where that says no right size or was not read whole:
+// that is this public call's clause.
 pub fn rest_size(length: &[u8]) -> usize
     ensures value { result ≡ rest_size length.now }
     ensures fits { 4 + result ≤ most_frame }

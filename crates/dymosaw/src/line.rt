@@ -1,4 +1,5 @@
-// A line of the desk: frame number, letter, code, answer length, entries listed, and a line feed.
+// A line of the desk: frame number, letter, code, answer length, entries listed, and a line feed. Each part answers the place behind
+// it, by wire's `Wrote`: a line is no AVP, so no `Writer` of avp serves here.
 ghost use Rattle.std.specs.Prelude.{◌≡◌, ◌+◌, ◌<◌, ◌≤◌, [], ◌∷◌, length};
 ghost use Rattle.wire.specs.Put.{Wrote};
 ghost use Rattle.paper.specs.Desk.{decimal, spaced, code_bytes, line_bytes};

@@ -333,6 +333,7 @@ fn serve_request(
 }
 
 // Answers a request, for any bytes: 01's `outcome` of what was lent. That the request lent is bytes is in its type; a caller learns it here.
+// Six buffers, as C lends them: the length of the answer is handed back beside its buffer.
 pub fn serve(
     table: &mut [u8],
     request: &[u8],

@@ -1,4 +1,5 @@
 // The AVPs that requests and answers hold, each by its key: the codes of the profile with their vendors, as in specs/Profile.antt.
+// The numbers stand once, in the profile.
 use crate::profile;
 use crate::profile::VENDOR_3GPP;
 use dictionary::Key;

@@ -9,7 +9,8 @@ pub mod layout;
 pub mod profile;
 
 // What the message reader answers of the AVPs of a message: "first fault of the visit", "visited unknown AVP with M set; the first", or neither.
-// A place counts from the start of the message; `end` is the end of what encloses the AVP.
+// A place counts from the start of the message; `end` is the end of what encloses the AVP. Three outcomes, which `join` of specs/Reader.antt puts in order;
+// the code of a fault is the number that the definitions say.
 #[derive(Clone, Copy, Debug, PartialEq, Eq)]
 pub enum Visit {
     Clean,
@@ -17,7 +18,8 @@ pub enum Visit {
     Unsupported { at: usize, end: usize },
 }
 
-// "A Result-Code and an Experimental-Result-Code are separate numberings": base 5001 cannot be written where the 3GPP 5001 is meant.
+// "A Result-Code and an Experimental-Result-Code are separate numberings": base 5001 cannot be written where the 3GPP 5001 is meant. Each is the
+// protocol's own number, as the definitions and the promises say it.
 #[derive(Clone, Copy, Debug, PartialEq, Eq)]
 pub struct ResultCode(pub u32);
 
@@ -68,6 +70,7 @@ pub struct Asked {
 }
 
 // What a line of the desk says of a frame behind its number: letter, code (an Experimental one or not), answer length, entries listed.
+// The letter is the byte that `line_bytes` of specs/Desk.antt prints; a code stands there whether it is an Experimental one or not.
 #[derive(Clone, Copy, Debug, PartialEq, Eq)]
 pub struct Line {
     pub letter: u8,

@@ -1,4 +1,5 @@
-// The list of nodes to cancel, in the cancel buffer: "two entries of 68 bytes, filled from the first".
+// The list of nodes to cancel, in the cancel buffer: "two entries of 68 bytes, filled from the first". Each writer answers
+// the place behind what it wrote, by wire's `Wrote`: an entry is no AVP, so no `Writer` of avp serves here.
 ghost use Rattle.std.specs.Prelude.{◌≡◌, [], ◌++◌, ◌+◌, ◌≤◌, length};
 ghost use Rattle.wire.specs.Put.{put, Wrote};
 ghost use Rattle.paper.specs.Layout.{most_name, entry_size, most_entries, cancel_size};

@@ -170,7 +170,8 @@ fn notify(t: &mut [u8], i: usize, flags: Flags, host: &[u8], cancel: &mut [u8])
 
 // ---- the command
 
-// Carries out the request `m` whose values these are, on record `i`: the table and the list after it, and as the result the purge bits that it sets.
+// Carries out the request `m` whose values these are, on record `i`: the table and the list after it, and as the result the purge bits that it sets:
+// a number, as `Done` of specs/Procedures.antt has them, with none set by a ULR or a NOR.
 pub fn carry_out(
     t: &mut [u8],
     i: usize,

@@ -53,7 +53,7 @@ impl Node {
     }
 }
 
-// "Names are equal when their bytes are."
+// "Names are equal when their bytes are.": a function of its own, so that the one place says it.
 pub fn same_name(a: &[u8], b: &[u8]) -> bool
     ensures { result ≡ same_name a.now b.now }
 {

@@ -5,4 +5,5 @@ pub mod NotedLaws
 pub mod TestLaws
 pub mod ChainLaws
 pub mod JudgeLaws
+pub mod KeyLaws
 pub mod AcceptLaws

@@ -27,7 +27,7 @@ impl<'a> Noted<'a> {
     }
 
     // The first AVP of a key, where the command uses that.
-    pub fn find_used(&self, key: Key) -> Option<Spot>
+    pub(crate) fn find_used(&self, key: Key) -> Option<Spot>
         ensures { Finds self.now.request.now (if_used (key_at key) self.now.request.now) result }
     {
         if self.uses(key) {
@@ -38,7 +38,7 @@ impl<'a> Noted<'a> {
     }
 
     // The data of an AVP that was found.
-    pub fn data(&self, spot: Spot) -> &'a [u8]
+    pub(crate) fn data(&self, spot: Spot) -> &'a [u8]
         requires { DataIn self.now.request.now spot }
         ensures { result.now ≡ stretch self.now.request.now spot.from spot.to }
     {
@@ -46,7 +46,7 @@ impl<'a> Noted<'a> {
     }
 
     // The data of what was found, no bytes where nothing was.
-    pub fn data_of(&self, found: Option<Spot>) -> &'a [u8]
+    pub(crate) fn data_of(&self, found: Option<Spot>) -> &'a [u8]
         requires { FoundIn self.now.request.now found }
         ensures { result.now ≡ data_in self.now.request.now found }
     {
@@ -57,7 +57,7 @@ impl<'a> Noted<'a> {
     }
 
     // The same, and told apart where nothing was found.
-    pub fn data_if(&self, found: Option<Spot>) -> Option<&'a [u8]>
+    pub(crate) fn data_if(&self, found: Option<Spot>) -> Option<&'a [u8]>
         requires { FoundIn self.now.request.now found }
         ensures { option_map (λ x. x.now) result ≡ option_map (λ s. stretch self.now.request.now s.from s.to) found }
     {
@@ -66,7 +66,7 @@ impl<'a> Noted<'a> {
     }
 
     // The data of what was found as a number of four bytes.
-    pub fn number_if(&self, found: Option<Spot>) -> Option<u32>
+    pub(crate) fn number_if(&self, found: Option<Spot>) -> Option<u32>
         requires { FoundIn self.now.request.now found }
         ensures { result ≡ option_map (λ s. num_at 4 (stretch self.now.request.now s.from s.to) 0) found }
     {
@@ -75,7 +75,7 @@ impl<'a> Noted<'a> {
     }
 
     // The AVPs inside Terminal-Information, if the command uses that; none where it is not there.
-    pub fn terminal_avps(&self) -> AvpList<'a>
+    pub(crate) fn terminal_avps(&self) -> AvpList<'a>
         ensures { avps result.at result.bytes.now ≡ terminal self.now.request.now }
     {
         let Some(spot) = self.find_used(TERMINAL_INFORMATION) else {

@@ -35,7 +35,7 @@ pub struct Noted<'a> {
 }
 
 // All AVPs behind the header.
-pub fn avps_of(m: &[u8]) -> AvpList
+pub(crate) fn avps_of(m: &[u8]) -> AvpList
     requires { message_header ≤ length m.now }
     ensures at { result.at ≡ message_header }
     ensures bytes { result.bytes.now ≡ drop message_header m.now }
