@@ -4,6 +4,7 @@ ghost use Rattle.reader.specs.Header.{header_of};
 
 use paper::layout::MESSAGE_HEADER;
 use wire::number::{U24, get};
+use wire::put::put_bytes;
 
 #[derive(Clone, Copy, Debug, PartialEq, Eq)]
 pub struct Header {
@@ -40,7 +41,7 @@ pub fn read_header(m: &[u8]) -> Header
         Some(whole) => whole_header(whole),
         None => {
             let mut filled = [0; MESSAGE_HEADER];
-            filled[..m.len()].copy_from_slice(m);
+            put_bytes(&mut filled, 0, m);
             whole_header(&filled)
         }
     }

@@ -6,6 +6,7 @@ use mathlib.Core.List.{List, [], ◌∷◌, ◌++◌, append_assoc}
 use borrow.Rule.Slice.PartMut.{put_mid}
 use Prim.Native.Nat.{ℕ, suc, ◌+◌, ◌-◌, ◌^◌, ◌≤◌, ◌<◌}
 use native.Mathlib.Nat.{add-zero, add-suc, suc-add, add_assoc}
+use native.Mathlib.Numerals.{add-one}
 use native.Mathlib.Omega.{arith}
 use lib.ListN.{length, take, drop, set, get_or, length-append, length-take, length-drop, take-append-drop, get_or-append}
 use lib.Seq.{length-take-le, take-suc, take_at, take-take, take-append-le, take-append-add, drop_at, drop-drop, drop-append-le, drop-append-add, set_at, get_or-take, get_or-drop}
@@ -140,6 +141,16 @@ put_front p x xs l h = rw (take-suc l p 0, append_assoc) (set_at (take p l) _ _ 
 -- a store is a put of one
 pub put_one : (p x : ℕ) (l : List ℕ) → p < length l → set l p x ≡ put p (x ∷ []) l
 put_one p x l h = ap (λ (m : List ℕ). set m p x) (sym (put-nil (suc p) l)) ∙ put_front p x [] l h
+
+pub put-more : (at x : ℕ) (xs l : List ℕ) → at + length xs < length l → set (put at xs l) (at + length xs) x ≡ put at (xs ++ (x ∷ [])) l
+put-more at x xs l h = put_one (at + length xs) x (put at xs l) (rw (length-put at xs l (omega arith)) h) ∙ put-put at xs (x ∷ []) l (omega arith)
+
+-- a turn of a loop that copies
+pub copy_step : (at j : ℕ) (src out l : List ℕ) → j < length src → at + length src ≤ length l → out ≡ put at (take j src) l
+    → set out (at + j) (get_or src j 0) ≡ put at (take (j + 1) src) l
+copy_step at j src out l hj hl e =
+    let n : length (take j src) ≡ j = length-take-le j src (omega arith) in
+    rw (e, add-one, take-suc src j 0) (rw n at (put-more at (get_or src j 0) (take j src) l (rw n (omega arith))))
 
 -- ---- the contract of the writers
 

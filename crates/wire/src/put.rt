@@ -2,14 +2,16 @@
 ghost use Rattle.std.specs.Prelude.{◌+◌, ◌≤◌, length, replicate};
 ghost use Rattle.wire.specs.Put.{Wrote};
 
-// The bytes of `src` at `at`. Every copy goes through this routine.
+// The bytes of `src` at `at`. Every copy goes through this routine. By a `for`: `copy_from_slice` asks C for memmove, and the library's header promises that
+// it needs memcpy and memset only.
 pub fn put_bytes(out: &mut [u8], at: usize, src: &[u8]) -> usize
     requires { at + length src.now ≤ length out.old }
     ensures { Wrote out.old at src.now out.new result }
 {
-    let end = at + src.len();
-    out[at..end].copy_from_slice(src);
-    end
+    for j in 0..src.len() {
+        out[at + j] = src[j];
+    }
+    at + src.len()
 }
 
 // `n` zeros at `at`.
