@@ -1,11 +1,12 @@
 -- Laws of parts of lists.
 -- Assumes nothing.
 use mathlib.Core.Path.{◌≡◌, sym, ap, ◌∙◌}
-use mathlib.Core.List.{List, ◌++◌, append_assoc}
+use mathlib.Core.List.{List, [], ◌∷◌, ◌++◌, append_assoc}
 use Prim.Native.Nat.{ℕ, ◌+◌, ◌-◌, ◌≤◌, ◌<◌}
+use native.Mathlib.Numerals.{add-one}
 use native.Mathlib.Omega.{arith}
 use lib.ListN.{length, take, drop, get_or, replicate, length-append, length-take, length-drop, length-replicate, replicate-append-replicate}
-use lib.Seq.{take-length, take-take, take-add, take_at, drop_at, drop-drop, take-append-le, drop-append-le, drop-append-add, get_or-take, get_or-drop, ext_get_or}
+use lib.Seq.{take-suc, take-length, take-take, take-add, take_at, drop_at, drop-drop, take-append-le, drop-append-le, drop-append-add, get_or-take, get_or-drop, ext_get_or}
 use Rattle.std.proofs.lemmas.List.{drop-take}
 use Rattle.wire.specs.Put.{part}
 
@@ -19,6 +20,10 @@ get_d_part at n s i h = rw (get_or-take n (drop at s) i 0 h, get_or-drop)
 
 pub part-whole : (s : List ℕ) → part 0 (length s) s ≡ s
 part-whole s = take-length s
+
+-- one element more
+pub part-more : (at n : ℕ) (s : List ℕ) → at + n < length s → part at (n + 1) s ≡ part at n s ++ (get_or s (at + n) 0 ∷ [])
+part-more at n s h = rw (add-one, take-suc (drop at s) n 0 (simp length-drop (omega arith)), get_or-drop)
 
 pub part-split : (at m n : ℕ) (s : List ℕ) → part at (m + n) s ≡ part at m s ++ part (at + m) n s
 part-split at m n s = take-add m n (drop at s) ∙ ap (λ (t : List ℕ). part at m s ++ take n t) (drop-drop m at s)

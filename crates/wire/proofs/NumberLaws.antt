@@ -117,9 +117,17 @@ pub num_at-more : (n : ℕ) (s : List ℕ) (at : ℕ) → num_at (n + 1) s at �
 num_at-more n s at = num_at-split n 1 s at ∙ ap (λ (k : ℕ). num_at n s at * 256 + k) (num_at-one s (at + n))
 
 -- a turn of a loop that reads
-pub read_step : (k : ℕ) (s : List ℕ) (at b : ℕ) {v : ℕ} → b ≡ get_or s (at + k) 0 → b < 256 → v ≡ num_at k s at → v < 256 ^ k
+pub read_step : (k : ℕ) (s : List ℕ) (at : ℕ) {v : ℕ} → v ≡ num_at k s at → v * 256 + get_or s (at + k) 0 ≡ num_at (k + 1) s at
+read_step k s at e = rw e (sym (num_at-more k s at))
+
+-- a number of k bytes, and one byte more
+pub num_step : (k v b : ℕ) → v < 256 ^ k → b < 256 → v * 256 + b < 256 ^ (k + 1)
+num_step k v b h hb = rw (add-one, pow-suc) (digits_lt h hb)
+
+-- the turn as a loop over bytes has it: the number, and that it fits its bytes
+pub read_turn : (k : ℕ) (s : List ℕ) (at b : ℕ) {v : ℕ} → b ≡ get_or s (at + k) 0 → b < 256 → v ≡ num_at k s at → v < 256 ^ k
     → (v * 256 + b ≡ num_at (k + 1) s at) × (v * 256 + b < 256 ^ (k + 1))
-read_step k s at b e hb ev hv = (rw (ev, e) (sym (num_at-more k s at)), rw (add-one, pow-suc) (digits_lt hv hb))
+read_turn k s at b {v} e hb ev hv = (rw e (read_step k s at ev), num_step k v b hv hb)
 
 pub num_at-lt : (n : ℕ) (s : List ℕ) (at : ℕ) → Bytes s → num_at n s at < 256 ^ n
 unfolding num_at

@@ -8,7 +8,7 @@ use Prim.Native.Nat.{ℕ, suc, ◌+◌, ◌-◌, ◌^◌, ◌≤◌, ◌<◌}
 use native.Mathlib.Nat.{add-zero, add-suc, suc-add, add_assoc}
 use native.Mathlib.Numerals.{add-one}
 use native.Mathlib.Omega.{arith}
-use lib.ListN.{length, take, drop, set, get_or, length-append, length-take, length-drop, take-append-drop, get_or-append}
+use lib.ListN.{length, take, drop, set, get_or, replicate, length-append, length-take, length-drop, length-replicate, take-append-drop, replicate-append-replicate, get_or-append}
 use lib.Seq.{length-take-le, take-suc, take_at, take-take, take-append-le, take-append-add, drop_at, drop-drop, drop-append-le, drop-append-add, set_at, get_or-take, get_or-drop}
 use Rattle.wire.specs.Number.{be, num, num_at, Bytes}
 use Rattle.wire.specs.Put.{part, put, Wrote}
@@ -152,6 +152,12 @@ copy_step at j src out l hj hl e =
     let n : length (take j src) ≡ j = length-take-le j src (omega arith) in
     rw (e, add-one, take-suc src j 0) (rw n at (put-more at (get_or src j 0) (take j src) l (rw n (omega arith))))
 
+-- a turn of a loop that fills with one byte
+pub fill_step : (at j n x : ℕ) (out l : List ℕ) → j < n → at + n ≤ length l → out ≡ put at (replicate j x) l → set out (at + j) x ≡ put at (replicate (j + 1) x) l
+fill_step at j n x out l hj hl e =
+    let k : length (replicate {A = ℕ} j x) ≡ j = length-replicate j x in
+    rw (e, ← replicate-append-replicate {A = ℕ} j 1 x) (rw k at (put-more at x (replicate j x) l (rw k (omega arith))))
+
 -- ---- the contract of the writers
 
 -- a writer that writes a part of the slice, whole
@@ -195,6 +201,12 @@ read_back at n v l h hv =
     ∙ ap (λ (k : ℕ). num (part at k (put at (be n v) l))) (sym (length-be n v))
     ∙ ap num (part-put at (be n v) l (omega arith))
     ∙ num_back n v hv
+
+pub read_back_u32 : (at v : ℕ) (l : List ℕ) → at + 4 ≤ length l → v < 2 ^ 32 → num_at 4 (put at (be 4 v) l) at ≡ v
+read_back_u32 at v l h hv = read_back at 4 v l h hv
+
+pub read_back_u64 : (at v : ℕ) (l : List ℕ) → at + 8 ≤ length l → v < 2 ^ 64 → num_at 8 (put at (be 8 v) l) at ≡ v
+read_back_u64 at v l h hv = read_back at 8 v l h hv
 
 pub bytes-put : (at : ℕ) (xs l : List ℕ) → Bytes xs → Bytes l → Bytes (put at xs l)
 unfolding put

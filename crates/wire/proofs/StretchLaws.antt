@@ -5,10 +5,11 @@ use mathlib.Core.Bool.{Bool, true, false, ◌&&◌, and_assoc, and-true, false�
 use mathlib.Core.List.{List, [], ◌∷◌, ◌++◌}
 use Prim.Native.Nat.{ℕ, zero, suc, ◌+◌, ◌≤◌, ◌<◌}
 use native.Mathlib.Nat.{le_of_suc-le-suc, not-suc-le-zero}
+use native.Mathlib.Numerals.{add-one}
 use native.Mathlib.Omega.{arith}
-use lib.Dec.{leb}
+use lib.Dec.{leb, eqb}
 use lib.ListN.{length, take, drop, get_or, replicate, length-drop, length-replicate, take-append-drop}
-use lib.Seq.{length-take-le}
+use lib.Seq.{take-suc, length-take-le}
 use borrow.Author.Tests.{leb-true, le-leb}
 use Rattle.std.specs.List.{fold, zip}
 use Rattle.std.proofs.Common.{Decides, rules}
@@ -16,6 +17,11 @@ use Rattle.std.proofs.lemmas.Bool.{and_parts, and_from, both_ways, false_from_ne
 use Rattle.std.proofs.lemmas.List.Recursion.{and_at, and_from_places}
 use Rattle.std.proofs.lemmas.Slice.Eq.{compares_Decides}
 use Rattle.wire.specs.Stretch.{same, all_in, between}
+
+-- what a loop gathers, joined as the definitions join it
+gathered : (good a b : Bool) → (good && a) && b ≡ good && ((a && b) && true)
+gathered true a b = sym (and-true (a && b))
+gathered false a b = refl
 
 -- ---- equal stretches
 
@@ -37,6 +43,26 @@ same_false a b e h = both_ways (same a b) e (same-equal a b h)
 
 pub same_differ : (a b : List ℕ) → (a ≡ b → ⊥) → same a b ≡ false
 same_differ a b h = false_from_ne_true (same a b) (λ e. h (same_true a b e))
+
+pub same-append : (a b c d : List ℕ) → length a ≡ length b → same (a ++ c) (b ++ d) ≡ same a b && same c d
+unfolding same
+same-append [] [] c d e = refl
+same-append [] (y ∷ b) c d e = absurd (omega arith)
+same-append (x ∷ a) [] c d e = absurd (omega arith)
+same-append (x ∷ a) (y ∷ b) c d e =
+    ap (λ (t : Bool). eqb x y && t) (same-append a b c d (omega arith)) ∙ sym (and_assoc (eqb x y) (same a b) (same c d))
+
+-- a turn of a loop that gathers
+pub same_more : (a b : List ℕ) (j : ℕ) {good : Bool} → j < length a → length a ≡ length b → good ≡ same (take j a) (take j b)
+    → good && eqb (get_or a j 0) (get_or b j 0) ≡ same (take (j + 1) a) (take (j + 1) b)
+unfolding same
+same_more a b j h e g =
+    let hb : j < length b = omega arith in
+    let na : length (take j a) ≡ j = length-take-le j a (omega arith) in
+    let nb : length (take j b) ≡ j = length-take-le j b (omega arith) in
+    rw (g, add-one j, take-suc a j 0 h, take-suc b j 0 hb)
+    (ap (λ (t : Bool). same (take j a) (take j b) && t) (sym (and-true (eqb (get_or a j 0) (get_or b j 0))))
+    ∙ sym (same-append (take j a) (take j b) (get_or a j 0 ∷ []) (get_or b j 0 ∷ []) (na ∙ sym nb)))
 
 -- ---- stretches within one range
 
@@ -81,6 +107,14 @@ all_in-one x (y ∷ s) e =
     let h : y ≡ x = omega arith in
     let t : s ≡ replicate (length s) x = all_in-one x s (all_in-drop x x 1 (y ∷ s) e) in
     ap (λ (z : ℕ). z ∷ s) h ∙ ap (λ (r : List ℕ). x ∷ r) t
+
+-- a turn of a loop that gathers
+pub all_in-more : (low high : ℕ) (s : List ℕ) (j : ℕ) {good : Bool} → j < length s → good ≡ all_in low high (take j s)
+    → (good && leb low (get_or s j 0)) && leb (get_or s j 0) high ≡ all_in low high (take (j + 1) s)
+unfolding all_in
+all_in-more low high s j h g =
+    let x = get_or s j 0 in
+    rw (g, add-one j, take-suc s j 0 h) (gathered (all_in low high (take j s)) (leb low x) (leb x high) ∙ sym (all_in-append low high (take j s) (x ∷ [])))
 
 -- one answer gathered over all bytes
 pub all_in-gathered : (low high : ℕ) (good : Bool) (s : List ℕ) → fold (λ t x. (t && leb low x) && leb x high) good s ≡ good && all_in low high s
@@ -130,6 +164,24 @@ between_two low high low' high' m n s e =
     ∙ between-append (replicate m low) _ (replicate m high) _ (take m s) (drop m s) (nf ∙ sym (length-replicate m low)) (nf ∙ sym (length-replicate m high))
     ∙ ap (λ (t : Bool). t && between (replicate n low') (replicate n high') (drop m s)) (between-replicate low high m (take m s) nf)
     ∙ ap (λ (t : Bool). all_in low high (take m s) && t) (between-replicate low' high' n (drop m s) nb)
+
+-- a turn of a loop that gathers
+pub between_more : (low high s : List ℕ) (j : ℕ) {good : Bool} → j < length s → length s ≡ length low → length s ≡ length high
+    → good ≡ between (take j low) (take j high) (take j s)
+    → (good && leb (get_or low j 0) (get_or s j 0)) && leb (get_or s j 0) (get_or high j 0) ≡ between (take (j + 1) low) (take (j + 1) high) (take (j + 1) s)
+unfolding between
+between_more low high s j h e f g =
+    let x = get_or s j 0 in
+    let l = get_or low j 0 in
+    let u = get_or high j 0 in
+    let hl : j < length low = omega arith in
+    let hh : j < length high = omega arith in
+    let ns : length (take j s) ≡ j = length-take-le j s (omega arith) in
+    let nl : length (take j low) ≡ j = length-take-le j low (omega arith) in
+    let nh : length (take j high) ≡ j = length-take-le j high (omega arith) in
+    rw (g, add-one j, take-suc s j 0 h, take-suc low j 0 hl, take-suc high j 0 hh)
+    (gathered (between (take j low) (take j high) (take j s)) (leb l x) (leb x u)
+    ∙ sym (between-append (take j low) (l ∷ []) (take j high) (u ∷ []) (take j s) (x ∷ []) (ns ∙ sym nl) (ns ∙ sym nh)))
 
 -- one answer gathered over all bytes and their bounds
 pub between-gathered : (low high : List ℕ) (good : Bool) (s : List ℕ) → length s ≡ length low → length s ≡ length high

@@ -8,7 +8,7 @@ use lib.ListN.{length, get_or}
 use Rattle.wire.specs.Number.{num_at}
 use Rattle.wire.specs.Put.{part}
 use Rattle.wire.proofs.ListLaws.{get_d_part, length_part}
-use Rattle.wire.proofs.NumberLaws.{read_step, num-room}
+use Rattle.wire.proofs.NumberLaws.{read_turn, num-room}
 use borrow.Author.Rules.{rules}
 use Rattle.wire.proofs.number.get_be.Goals as goal
 
@@ -39,5 +39,5 @@ loop-b-preserved c =
     let a = c.args in
     let i = c.loop-b.b-index in
     let p = place a.at a.width i a.s.now c.requires.0 c.loop-b-test.true in
-    let r = read_step i a.s.now a.at _ p.1 (omega (arith, c.type_inv.s (a.at + i))) c.loop-b.invariant.1 c.loop-b.invariant.2 in
+    let r = read_turn i a.s.now a.at _ p.1 (omega (arith, c.type_inv.s (a.at + i))) c.loop-b.invariant.1 c.loop-b.invariant.2 in
     (omega arith, r.0, r.1)

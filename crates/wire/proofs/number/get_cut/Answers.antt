@@ -2,7 +2,7 @@
 -- Assumes nothing.
 use native.Mathlib.Omega.{arith}
 use Rattle.wire.specs.Number.{num_at}
-use Rattle.wire.proofs.NumberLaws.{read_step, num-room}
+use Rattle.wire.proofs.NumberLaws.{read_turn, num-room}
 use borrow.Author.Rules.{rules}
 use Rattle.wire.proofs.number.get_cut.Goals as goal
 
@@ -18,4 +18,4 @@ overflow_add-v c = omega (arith, num-room c.loop-k.k _ (omega arith) c.loop-k.in
 
 pub loop-k-preserved : goal.loop-k-preserved
 loop-k-preserved c =
-    read_step c.loop-k.k _ c.args.at _ c.byte_or_zero.ensures (omega arith) c.loop-k.invariant.0 c.loop-k.invariant.1
+    read_turn c.loop-k.k _ c.args.at _ c.byte_or_zero.ensures (omega arith) c.loop-k.invariant.0 c.loop-k.invariant.1
