@@ -1,5 +1,6 @@
--- The static holds the specification's rows and their keys ascend, by computed tests over all rows, and what a search by halves uses of it.
-use Rattle.std.proofs.Common.{◌≡◌, refl, sym, ap, ap₂, ◌∙◌, ℕ, zero, suc, ◌≤◌, ◌<◌, Bool, true, ◌&&◌, List, [], ◌∷◌, length, get_or, Ok, Err, arith}
+-- The static holds the specification's rows and their keys ascend, by computed tests over all rows; the row with a key, in any rows whose keys ascend, and what a
+-- search by halves uses of it.
+use Rattle.std.proofs.Common.{◌≡◌, refl, sym, ap, ◌∙◌, ℕ, zero, suc, ◌≤◌, ◌<◌, Bool, true, ◌&&◌, List, [], ◌∷◌, length, get_or, Ok, Err, arith}
 use lib.Dec.{ltb}
 use borrow.Author.Tests.{eq-eqb, ne_eqb, ltb-true}
 use native.Mathlib.Nat.{not-suc-le-zero, le_of_suc-le-suc, lt_trans}
@@ -21,6 +22,15 @@ rows_held = refl
 pub keys-rise : rising 0 keys ≡ true
 unfolding rising keys rows keys_of key_of
 keys-rise = refl
+
+-- rows that are the dictionary's ascend, and a lookup in them is one in the dictionary
+pub rows_rise : {rs : List Row} → rs ≡ rows → rising 0 (keys_of rs) ≡ true
+unfolding keys
+rows_rise e = ap (λ l. rising 0 (keys_of l)) e ∙ keys-rise
+
+pub kind_of_rows : {rs : List Row} → rs ≡ rows → (vendor code : ℕ) → kind_in rs vendor code ≡ kind_of vendor code
+unfolding kind_of
+kind_of_rows e vendor code = ap (λ l. kind_in l vendor code) e
 
 -- rising lists
 
@@ -46,6 +56,14 @@ ascending b (x ∷ xs) e (suc i) (suc j) h l =
 -- one row a key
 pub key_once : (ks : List ℕ) → rising 0 ks ≡ true → (i j : ℕ) → i < length ks → j < length ks → get_or ks i 0 ≡ get_or ks j 0 → i ≡ j
 key_once ks r i j h g e = grind (arith, ascending 0 ks r i j, ascending 0 ks r j i)
+
+-- what a step of a search by halves leaves out
+module _ (ks : List ℕ) (r : rising 0 ks ≡ true) where
+  pub all_below : (k mid : ℕ) → mid < length ks → get_or ks mid 0 < k → (j : ℕ) → j ≤ mid → get_or ks j 0 < k
+  all_below k mid b h j p = grind (arith, ascending 0 ks r j mid, λ (same : j ≡ mid). ap (λ n. get_or ks n 0) same)
+
+  pub all_above : (k mid : ℕ) → k < get_or ks mid 0 → (j : ℕ) → mid ≤ j → j < length ks → k < get_or ks j 0
+  all_above k mid h j p b = grind (arith, ascending 0 ks r mid j, λ (same : mid ≡ j). ap (λ n. get_or ks n 0) same)
 
 -- rows and their keys
 
@@ -81,13 +99,23 @@ unfolding kind_with
 with_none k [] n = refl
 with_none k (r ∷ rs) n = rw (ne_eqb (number r) k (n 0 r (omega arith))) (with_none k rs (λ j d h. n (suc j) d (omega arith)))
 
--- what a search by halves answers among the rows
+pub kind_at : (rs : List Row) → rising 0 (keys_of rs) ≡ true → (vendor code i : ℕ) (d : Row) → i < length rs → get_or (keys_of rs) i 0 ≡ key_of vendor code
+    → kind_in rs vendor code ≡ (get_or rs i d).kind
+unfolding kind_in
+kind_at rs r vendor code i d h e = with_at (key_of vendor code) 0 rs r i d h (sym (key_at rs i d h) ∙ e)
 
-module _ (rs : List Row) (held : rs ≡ rows) (vendor code k : ℕ) (key : k ≡ key_of vendor code) where
-  rise : rising 0 (keys_of rs) ≡ true
-  unfolding keys
-  rise = ap (λ l. rising 0 (keys_of l)) held ∙ keys-rise
+pub kind_none : (rs : List Row) (vendor code : ℕ) → ((j : ℕ) → j < length rs → get_or (keys_of rs) j 0 ≡ key_of vendor code → ⊥) → kind_in rs vendor code ≡ Unknown
+unfolding kind_in
+kind_none rs vendor code n = with_none (key_of vendor code) rs (λ j d h e. n j h (key_at rs j d h ∙ e))
 
+-- nothing is left between the keys below and the keys above
+pub kind_nowhere : (rs : List Row) (vendor code lo hi : ℕ) → hi ≤ lo → ((j : ℕ) → j < lo → get_or (keys_of rs) j 0 < key_of vendor code)
+    → ((j : ℕ) → hi ≤ j → j < length rs → key_of vendor code < get_or (keys_of rs) j 0) → kind_in rs vendor code ≡ Unknown
+kind_nowhere rs vendor code lo hi h below over = kind_none rs vendor code (λ j p e. grind (arith, below j, over j))
+
+-- what a search by halves answers among rows whose keys ascend
+
+module _ (rs : List Row) (rise : rising 0 (keys_of rs) ≡ true) (vendor code k : ℕ) (key : k ≡ key_of vendor code) where
   -- the comparisons with a key rise along the rows
   comparisons_rise : IsNonDecreasingBy (λ r. ordering_index (nat_cmp (number r) k)) rs
   comparisons_rise i j d le h =
@@ -96,13 +124,13 @@ module _ (rs : List Row) (held : rs ≡ rows) (vendor code k : ℕ) (key : k ≡
       let up : number (get_or rs i d) ≤ number (get_or rs j d) = grind (arith, a, key_at rs i d, key_at rs j d, λ (same : i ≡ j). ap (λ n. number (get_or rs n d)) same) in
       grind (arith, nat_tests)
 
-  pub kind_found : (i : ℕ) (d : Row) → i < length rs → IsBinarySearchResult (λ r. nat_cmp (number r) k) rs (Ok i) → (get_or rs i d).kind ≡ kind_of vendor code
-  unfolding kind_of kind_in
-  kind_found i d h at = sym (with_at k 0 rs rise i d h (ranked _ _ _ (sym (at d)))) ∙ ap₂ kind_with key held
+  pub found_in : (i : ℕ) (d : Row) → i < length rs → IsBinarySearchResult (λ r. nat_cmp (number r) k) rs (Ok i) → (get_or rs i d).kind ≡ kind_in rs vendor code
+  unfolding kind_in
+  found_in i d h at = sym (with_at k 0 rs rise i d h (ranked _ _ _ (sym (at d)))) ∙ ap (λ n. kind_with n rs) key
 
-  pub kind_absent : (i : ℕ) → IsBinarySearchResult (λ r. nat_cmp (number r) k) rs (Err i) → Unknown ≡ kind_of vendor code
-  unfolding kind_of kind_in
-  kind_absent i parted = sym (with_none k rs none) ∙ ap₂ kind_with key held
+  pub absent_in : (i : ℕ) → IsBinarySearchResult (λ r. nat_cmp (number r) k) rs (Err i) → Unknown ≡ kind_in rs vendor code
+  unfolding kind_in
+  absent_in i parted = sym (with_none k rs none) ∙ ap (λ n. kind_with n rs) key
     where
       none : (j : ℕ) (d : Row) → j < length rs → number (get_or rs j d) ≡ k → ⊥
       none j d h e =
@@ -110,3 +138,12 @@ module _ (rs : List Row) (held : rs ≡ rows) (vendor code k : ℕ) (key : k ≡
           let below : j < i → number (get_or rs j d) < k = λ l. ranked _ _ _ (sym (p.0 j d (omega arith) l)) in
           let over : i ≤ j → k < number (get_or rs j d) = λ l. ranked _ _ _ (sym (p.1 j d l h)) in
           grind (arith, below, over)
+
+-- the same among the dictionary's rows
+
+module _ (rs : List Row) (held : rs ≡ rows) (vendor code k : ℕ) (key : k ≡ key_of vendor code) where
+  pub kind_found : (i : ℕ) (d : Row) → i < length rs → IsBinarySearchResult (λ r. nat_cmp (number r) k) rs (Ok i) → (get_or rs i d).kind ≡ kind_of vendor code
+  kind_found i d h at = found_in rs (rows_rise held) vendor code k key i d h at ∙ kind_of_rows held vendor code
+
+  pub kind_absent : (i : ℕ) → IsBinarySearchResult (λ r. nat_cmp (number r) k) rs (Err i) → Unknown ≡ kind_of vendor code
+  kind_absent i parted = absent_in rs (rows_rise held) vendor code k key i parted ∙ kind_of_rows held vendor code

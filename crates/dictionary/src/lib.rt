@@ -1,11 +1,11 @@
 // The AVPs that the registry knows, and what their types mean to the reader (document 01, "The reader").
-// A lookup halves the rows, whose keys ascend: that they do is proved once over all of them.
+// A lookup halves the rows, whose keys ascend: that they do is proved once over all of them, and asked of any other rows.
 #![tactic(auto)]
 
-ghost use Rattle.std.specs.Prelude.{◌≡◌, ◌<◌};
-ghost use Rattle.dictionary.specs.Rows.{key_of, kind_of};
+ghost use Rattle.std.specs.Prelude.{◌≡◌, ◌<◌, true};
+ghost use Rattle.dictionary.specs.Rows.{rows, keys_of, rising, key_of, kind_in, kind_of};
 
-use rows::ROWS;
+pub use rows::ROWS;
 
 mod rows;
 
@@ -50,7 +50,25 @@ pub struct Row {
     pub kind: Kind,
 }
 
-// The kind of the AVP with this key; Unknown where no row has it.
+// All rows, by ascending keys.
+pub fn all_rows() -> &'static [Row]
+    ensures { result.now ≡ rows }
+{
+    &ROWS
+}
+
+// The kind of the row with this key among rows of the caller's own whose keys ascend; Unknown where none has it.
+pub fn lookup_in(list: &[Row], key: Key) -> Kind
+    requires { rising 0 (keys_of list.now) ≡ true }
+    ensures { result ≡ kind_in list.now key.vendor key.code }
+{
+    match list.binary_search_by_key(&key.number(), |row| row.key.number()) {
+        Ok(at) => list[at].kind,
+        Err(_) => Kind::Unknown,
+    }
+}
+
+// The kind of the AVP with this key; Unknown where no row has it. Each AVP of a message comes here: the search is written out over the static, whose length is known.
 pub fn lookup(key: Key) -> Kind
     ensures { result ≡ kind_of key.vendor key.code }
 {

@@ -1,12 +1,26 @@
--- A header's fields are told by the first 20 bytes, and zeros stand for those that a message lacks.
+-- A header's fields are told by the first 20 bytes, and zeros stand for those that a message lacks; a field of a header fits.
 -- Assumes nothing.
-use Rattle.std.proofs.Common.{◌≡◌, refl, sym, ◌∙◌, Bool, true, false, List, ◌++◌, ℕ, zero, suc, ◌+◌, ◌-◌, ◌≤◌, ◌<◌, length, get_or, arith}
+use Rattle.std.proofs.Common.{◌≡◌, refl, sym, ◌∙◌, Bool, true, false, List, ◌++◌, ℕ, zero, suc, ◌+◌, ◌-◌, ◌≤◌, ◌<◌, ◌^◌, length, get_or, arith}
 use lib.Dec.{ltb}
 use lib.ListN.{take, drop, replicate}
 use borrow.Author.Tests.{ltb-true, ltb-false}
 use Rattle.std.proofs.lemmas.List.{get_or_append_left, get_or-append_right, get_or-drop, get_or-replicate, get_or-take, get_or_past}
 use Rattle.wire.specs.Number.{num_at}
 use Rattle.reader.specs.Header.{header_of}
+
+pub num_at_past : (n : ℕ) (s : List ℕ) (at : ℕ) → length s ≤ at → num_at n s at ≡ 0
+unfolding num_at
+num_at_past zero s at h = refl
+num_at_past (suc n) s at h = rw (get_or_past s at 0 h, num_at_past n s (suc at) (omega arith)) (omega arith)
+
+-- four bytes at most are a number of 32 bits
+pub narrow : (n v : ℕ) → n ≤ 4 → v < 256 ^ n → v < 2 ^ 32
+narrow zero v h l = omega arith
+narrow (suc zero) v h l = omega arith
+narrow (suc (suc zero)) v h l = omega arith
+narrow (suc (suc (suc zero))) v h l = omega arith
+narrow (suc (suc (suc (suc zero)))) v h l = omega arith
+narrow (suc (suc (suc (suc (suc n))))) v h l = absurd (omega arith)
 
 num_at-alike : (s t : List ℕ) → ((i : ℕ) → i < 20 → get_or s i 0 ≡ get_or t i 0) → (n at : ℕ) → at + n ≤ 20 → num_at n s at ≡ num_at n t at
 unfolding num_at
