@@ -1,24 +1,62 @@
--- What is found lies inside the stretch, with the paper's data, also where the stretch stands in a message.
+-- The first AVP of a key, step by step of the cursor; and that what is found lies inside the stretch, with the paper's data, also where the stretch stands in a message.
 -- Assumes nothing.
 use mathlib.Core.Path.{◌≡◌, refl, sym, ap, ◌∙◌}
-use mathlib.Core.Bool.{true}
+use mathlib.Core.Bool.{true, false, ◌&&◌}
 use mathlib.Core.Option.{Option, none, some, map}
 use mathlib.Core.List.{List, []}
 use Prim.Native.Nat.{ℕ, ◌+◌, ◌-◌, ◌<◌}
+use native.Mathlib.Nat.{zero-add}
 use native.Mathlib.Omega.{arith}
 use lib.ListN.{length, take, drop, length-drop, drop_of_length-le}
 use lib.Seq.{take-length}
+use lib.Dec.{eqb}
 use Rattle.std.specs.Prelude.{Some, None}
 use Rattle.std.proofs.lemmas.Option.{none-some, same_Some}
 use Rattle.paper.specs.Avp.{framed, avp_of}
 use Rattle.paper.specs.Reader.{Placed, placed, avps}
-use Rattle.paper.specs.Find.{first_of, first_second, body_found, origin_host}
+use Rattle.paper.specs.Find.{has_key, first_of, first_second, body_found, origin_host}
 use Rattle.paper.proofs.AvpsLaws.{Stands, first_of_stands, first_second_stands, avps_empty}
-use Rattle.avp.specs.Step.{avp_at}
+use Rattle.avp.specs.Step.{avp_at, step_at}
 use Rattle.avp.specs.Found.{found_at, Inside, data_of}
 use Rattle.avp.specs.declared.cursor.Avp.{Avp}
-use Rattle.avp.proofs.StepLaws.{read-place, inside-at, data_at}
+use Rattle.avp.specs.declared.cursor.Cursor.{Cursor}
+use Rattle.avp.specs.declared.cursor.Step.TheVariants.{Item, End, Bad}
+use Rattle.avp.proofs.StepLaws.{avps-end, avps_bad, avps-item, item-avp, read-place, inside-at, data_at}
 use Rattle.avp.proofs.MovedLaws.{move_by, placed_moved, first_of_based, first_second_based, body_anywhere}
+
+-- ---- a search by the cursor
+
+-- it starts with all AVPs of the stretch
+pub walk_start : (s : List ℕ) {at : ℕ} → at ≡ 0 → avps 0 s ≡ avps (0 + at) (drop at s)
+walk_start s e = rw e
+
+-- the answer that is the AVP of a step
+pub found-item : (s : List ℕ) (at : ℕ) {a : Avp} {next : Cursor} → Item a next ≡ step_at s at → found_at s (some (placed (0 + at) (drop at s))) ≡ Some a
+unfolding placed
+found-item s at e = ap Some (ap (avp_at s) (zero-add at) ∙ sym (item-avp s at e))
+
+module _ (vendor code : ℕ) (s : List ℕ) (at : ℕ) where
+  pub find-end : End ≡ step_at s at → first_of vendor code (avps (0 + at) (drop at s)) ≡ none
+  unfolding first_of
+  find-end e = ap (first_of vendor code) (avps-end 0 s at e)
+
+  pub find_bad : {p : ℕ} → Bad p ≡ step_at s at → first_of vendor code (avps (0 + at) (drop at s)) ≡ none
+  unfolding first_of
+  find_bad e = ap (first_of vendor code) (avps_bad 0 s at e)
+
+  module _ {a : Avp} {next : Cursor} (e : Item a next ≡ step_at s at) where
+    item-key : has_key vendor code (placed (0 + at) (drop at s)).avp ≡ eqb a.vendor vendor && eqb a.code code
+    unfolding has_key placed avp_of avp_at
+    item-key = ap (λ (b : Avp). eqb b.vendor vendor && eqb b.code code) (sym (item-avp s at e))
+
+    pub find-here : eqb a.vendor vendor && eqb a.code code ≡ true → first_of vendor code (avps (0 + at) (drop at s)) ≡ some (placed (0 + at) (drop at s))
+    unfolding first_of
+    find-here k = ap (first_of vendor code) (avps-item 0 s at e) ∙ rw (item-key ∙ k)
+
+    pub find-later : eqb a.vendor vendor && eqb a.code code ≡ false
+        → first_of vendor code (avps (0 + at) (drop at s)) ≡ first_of vendor code (avps (0 + next.at) (drop next.at s))
+    unfolding first_of
+    find-later k = ap (first_of vendor code) (avps-item 0 s at e) ∙ rw (item-key ∙ k)
 
 -- ---- what is found
 
@@ -64,9 +102,12 @@ pub found_nothing : (s : List ℕ) (f : Option Placed) → None ≡ found_at s f
 found_nothing s none e = refl
 found_nothing s (some p) e = absurd (none-some (avp_at s p.at) e)
 
--- the data of what was found
+-- the data of what was found, and none where nothing was
 pub found-body : (s : List ℕ) {a : Avp} (vendor code : ℕ) → Some a ≡ found_at s (first_of vendor code (avps 0 s)) → data_of s a ≡ body_found (first_of vendor code (avps 0 s))
 found-body s vendor code e = lies-body (found-lies s vendor code e)
+
+pub no_body : (s : List ℕ) (vendor code : ℕ) → None ≡ found_at s (first_of vendor code (avps 0 s)) → [] ≡ body_found (first_of vendor code (avps 0 s))
+no_body s vendor code e = sym (ap body_found (found_nothing s (first_of vendor code (avps 0 s)) e))
 
 -- ---- the same, where the stretch stands at `base` of the message
 

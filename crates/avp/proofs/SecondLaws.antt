@@ -5,11 +5,12 @@ use mathlib.Core.Bool.{Bool, true, false, cond, not, ◌||◌}
 use mathlib.Core.List.{List, [], ◌∷◌, map}
 use Prim.Native.Nat.{ℕ, zero, suc, ◌+◌, ◌≤◌, ◌<◌}
 use Prim.Native.Nat.compare
+use native.Mathlib.Nat.{le_of_suc-le-suc, not-suc-le-zero}
 use native.Mathlib.Omega.{arith}
 use lib.ListN.{length, get_or, set, replicate}
 use lib.Seq.{get_or-set_same, get_or-set_other}
 use lib.Dec.{eqb, ltb}
-use borrow.Author.Tests.{eqb-true, eqb-false, eq-eqb, ne_eqb, lt-ltb}
+use borrow.Author.Tests.{eqb-true, eqb-false, eq-eqb, ne_eqb, lt-ltb, le-ltb}
 use Rattle.std.specs.Prelude.{Some, None, is_some}
 use Rattle.std.specs.List.{position_or_len}
 use Rattle.std.proofs.lemmas.List.Quantifiers.{position-Some}
@@ -28,7 +29,8 @@ module _ (k : ℕ) (keys : List Key) {i : ℕ} (e : index_of k keys ≡ Some i) 
   pub index_below : i < length keys
   index_below = (position-Some (λ x. eqb (number x) k) keys i (record { vendor = 0; code = 0 }) e).0
 
-  index_at : number (get_or keys i (record { vendor = 0; code = 0 })) ≡ k
+  -- a key that is there stands at its index
+  pub index_at : number (get_or keys i (record { vendor = 0; code = 0 })) ≡ k
   index_at = eqb-true _ _ (position-Some (λ x. eqb (number x) k) keys i (record { vendor = 0; code = 0 }) e).1
 
 -- two numbers have two indexes
@@ -55,6 +57,32 @@ member_index k keys = among keys ∙ sym (answers (ltb (position_or_len (λ x. e
             let n = position_or_len (λ y. eqb (number y) k) xs in
             let one : 1 + n ≡ suc n = omega arith in
             rw (ne_eqb k (number x) (λ q. eqb-false (number x) k e (sym q)), one, compare.suc-suc) f
+
+pub index_member : (k : ℕ) (keys : List Key) → member k (map number keys) ≡ true → is_some (index_of k keys) ≡ true
+index_member k keys e = sym (member_index k keys) ∙ e
+
+pub no_member_index : (k : ℕ) (keys : List Key) → index_of k keys ≡ None → member k (map number keys) ≡ false
+no_member_index k keys e = member_index k keys ∙ ap is_some e
+
+-- a search that comes to the key's place: those before it are others
+pub index_here : (k : ℕ) (keys : List Key) (i : ℕ) (d : Key) → i < length keys → ((j : ℕ) → j < i → number (get_or keys j d) ≡ k → ⊥) → number (get_or keys i d) ≡ k
+    → index_of k keys ≡ Some i
+index_here k keys i d h n e = rw (steps keys i h n e, lt-ltb i (length keys) h)
+  where
+    steps : (xs : List Key) (j : ℕ) → j < length xs → ((m : ℕ) → m < j → number (get_or xs m d) ≡ k → ⊥) → number (get_or xs j d) ≡ k
+        → position_or_len (λ x. eqb (number x) k) xs ≡ j
+    steps [] j l f q = absurd (not-suc-le-zero l)
+    steps (x ∷ xs) zero l f q = rw (eq-eqb (number x) k q)
+    steps (x ∷ xs) (suc j) l f q =
+        rw (ne_eqb (number x) k (f 0 (omega arith)), steps xs j (le_of_suc-le-suc l) (λ m b. f (suc m) (omega arith)) q) (omega arith)
+
+-- a search that comes to the end
+pub index_none : (k : ℕ) (keys : List Key) (d : Key) → ((j : ℕ) → j < length keys → number (get_or keys j d) ≡ k → ⊥) → index_of k keys ≡ None
+index_none k keys d n = rw (past keys n, le-ltb (length keys) (length keys) (omega arith))
+  where
+    past : (xs : List Key) → ((j : ℕ) → j < length xs → number (get_or xs j d) ≡ k → ⊥) → position_or_len (λ x. eqb (number x) k) xs ≡ length xs
+    past [] f = refl
+    past (x ∷ xs) f = rw (ne_eqb (number x) k (f 0 (omega arith)), past xs (λ j l. f (suc j) (omega arith))) (omega arith)
 
 -- ---- the flags
 

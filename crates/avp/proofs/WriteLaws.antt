@@ -104,6 +104,9 @@ pub received_for : (vendor code : ℕ) (mandatory : Bool) (body : List ℕ) {fla
 unfolding written
 received_for vendor code mandatory body e = ap (λ (f : ℕ). received code f vendor body) e
 
+pub head_for : (vendor code n : ℕ) {flags : ℕ} → flags ≡ flags_for vendor true → head_bytes code flags vendor n ≡ group_head vendor code n
+head_for vendor code n e = ap (λ (f : ℕ). head_bytes code f vendor n) e
+
 -- ---- groups
 
 -- a group is its header and its data, which is made of fours
@@ -117,8 +120,12 @@ pub length-group : (vendor code : ℕ) (d : List ℕ) → length d % 4 ≡ 0 →
 length-group vendor code d e = ap length (sym (group_parts vendor code d e)) ∙ length-append (group_head vendor code (length d)) d
 
 module _ (vendor code : ℕ) (d : List ℕ) (e : length d % 4 ≡ 0) {l l₁ l₂ : List ℕ} {at : ℕ} where
+  -- header first
+  pub wrote-group : {a b : ℕ} → at ≤ length l → Wrote l at (group_head vendor code (length d)) l₁ a → Wrote l₁ a d l₂ b → Wrote l at (written vendor code true d) l₂ b
+  wrote-group h w v = wrote-same (group_parts vendor code d e) (wrote_then h w v)
+
   -- parts first
-  wrote-group_under : {r q : ℕ} → at + cond (eqb vendor 0) 8 12 ≤ length l → Wrote l (at + cond (eqb vendor 0) 8 12) d l₁ r
+  pub wrote-group_under : {r q : ℕ} → at + cond (eqb vendor 0) 8 12 ≤ length l → Wrote l (at + cond (eqb vendor 0) 8 12) d l₁ r
       → Wrote l₁ at (group_head vendor code (length d)) l₂ q → Wrote l at (written vendor code true d) l₂ r
   wrote-group_under {r} {q} h v w =
       let n : cond (eqb vendor 0) 8 12 ≡ length (group_head vendor code (length d)) =
@@ -126,8 +133,8 @@ module _ (vendor code : ℕ) (d : List ℕ) (e : length d % 4 ≡ 0) {l l₁ l�
       wrote-same (group_parts vendor code d e) (wrote_under (rw n at h) (rw n at v) w)
 
 -- what is asked where a group is closed
-pub group_ask : (vendor : ℕ) {d : List ℕ} {w w₁ w₂ : Writer} {start : ℕ} → start ≡ w.at → Opened w (group_head_size vendor) w₁ → Appended w₁ d w₂ → w₂.at < start + 16777200
-    → (start + group_head_size vendor ≤ w₂.at) × (w₂.at < start + 16777200) × Room w₂ 0
+pub group_ask : (vendor : ℕ) {d : List ℕ} {w w₁ w₂ : Writer} {start : ℕ} → start ≡ w.at → Opened w (group_head_size vendor) w₁ → Appended w₁ d w₂ → w₂.at < start + group_head_size vendor + 16777200
+    → (start + group_head_size vendor ≤ w₂.at) × (w₂.at < start + group_head_size vendor + 16777200) × Room w₂ 0
 group_ask vendor e o p h =
     let a = o.at in
     let n = p.wrote.next in

@@ -97,7 +97,7 @@ impl Writer<'_> {
     }
 
     // The header of a group with M whose `n` bytes of data, fours, stand behind it or will.
-    fn put_group_head(&mut self, key: Key, n: usize)
+    pub fn put_group_head(&mut self, key: Key, n: usize)
         requires { (n < 16777200) × Room self.old (length (group_head key.vendor key.code n)) }
         ensures { Appended self.old (group_head key.vendor key.code n) self.new }
     {
@@ -126,7 +126,7 @@ impl Writer<'_> {
 
     // The header of the group that was begun at `start` and whose parts, fours, end here: their length is known by now.
     pub fn close_group(&mut self, key: Key, start: usize)
-        requires { (start + group_head_size key.vendor ≤ self.old.at) × (self.old.at < start + 16777200) × Room self.old 0 }
+        requires { (start + group_head_size key.vendor ≤ self.old.at) × (self.old.at < start + group_head_size key.vendor + 16777200) × Room self.old 0 }
         ensures { Closed self.old key.vendor key.code start self.new }
     {
         let end = self.at;
