@@ -83,9 +83,12 @@ module _ (kind : ℕ → ℕ → Kind) (left base : ℕ) (s : List ℕ) where
 
 -- ---- an AVP, by its kind
 
--- a lookup by its key
+-- a lookup by its key, by any dictionary
+pub kind-looked-by : (kind : ℕ → ℕ → Kind) (a : Avp) {key : Key} {k : Kind} → key ≡ key_at a → k ≡ kind key.vendor key.code → kind a.vendor a.code ≡ k
+kind-looked-by kind a e l = sym (l ∙ ap (λ (x : Key). kind x.vendor x.code) e)
+
 pub kind-looked : (a : Avp) {key : Key} {k : Kind} → key ≡ key_at a → k ≡ Rows.kind_of key.vendor key.code → Rows.kind_of a.vendor a.code ≡ k
-kind-looked a e l = sym (l ∙ ap (λ (x : Key). Rows.kind_of x.vendor x.code) e)
+kind-looked a e l = kind-looked-by Rows.kind_of a e l
 
 module _ (kind : ℕ → ℕ → Kind) (left base : ℕ) (s : List ℕ) (a : Avp) (r : ReadFrom s a) where
   -- the AVP that the paper speaks of

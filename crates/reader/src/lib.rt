@@ -3,5 +3,6 @@
 #![tactic(auto)]
 
 pub mod header;
+mod kinds;
 pub mod message;
 pub mod visit;
