@@ -5,8 +5,9 @@ use mathlib.Core.Bool.{Bool, true, false, cond}
 use mathlib.Core.List.{List, ◌∷◌, ◌++◌, append_assoc}
 use Prim.Native.Nat.{ℕ, ◌+◌, ◌/◌, ◌%◌, ◌^◌, ◌≤◌, ◌<◌}
 use native.Mathlib.Omega.{arith}
-use lib.ListN.{length, length-append}
+use lib.ListN.{length, get_or, length-append}
 use lib.Dec.{eqb}
+use borrow.Author.Tests.{eq-eqb, ne_eqb}
 use Rattle.std.specs.Prelude.{Option}
 use Rattle.wire.specs.Number.{be}
 use Rattle.wire.specs.Put.{part, Wrote}
@@ -35,6 +36,20 @@ error-base e = rw e
 pub error-experimental : {v : Verdict} {code : ExperimentalCode} → v ≡ Experimental code → false ≡ is_protocol_error (verdict_of v)
 unfolding is_protocol_error
 error-experimental e = rw e
+
+-- P as received
+pub proxiable : (m : List ℕ) → get_or m 4 0 / 64 % 2 ≡ 1 → ◌≡◌ {A = ℕ} 64 (cond (is_proxiable m) 64 0)
+proxiable m e = rw (eq-eqb (get_or m 4 0 / 64 % 2) 1 e)
+
+pub not-proxiable : (m : List ℕ) → (get_or m 4 0 / 64 % 2 ≡ 1 → ⊥) → ◌≡◌ {A = ℕ} 0 (cond (is_proxiable m) 64 0)
+not-proxiable m e = rw (ne_eqb (get_or m 4 0 / 64 % 2) 1 e)
+
+pub flag_most : (m : List ℕ) {p : ℕ} → p ≡ cond (is_proxiable m) 64 0 → p ≤ 64
+flag_most m e = rw e (go (is_proxiable m))
+  where
+    go : (b : Bool) → cond b 64 0 ≤ 64
+    go true = omega arith
+    go false = omega arith
 
 -- E where it is set
 module _ (m : List ℕ) (v : Answer.Verdict) {p : ℕ} (f : p ≡ cond (is_proxiable m) 64 0) where

@@ -3,10 +3,10 @@
 use mathlib.Core.Path.{◌≡◌, refl, sym, ap, ◌∙◌}
 use mathlib.Core.Bool.{Bool, true, false, cond, ◌&&◌, and_comm}
 use mathlib.Core.Option.{Option, none, some, map}
-use mathlib.Core.List.{List, [], ◌∷◌, ◌++◌, append_assoc}
-use Prim.Native.Nat.{ℕ, ◌-◌, ◌≤◌}
+use mathlib.Core.List.{List, [], ◌∷◌, ◌++◌, append_assoc, append-nil}
+use Prim.Native.Nat.{ℕ, ◌+◌, ◌-◌, ◌≤◌}
 use native.Mathlib.Omega.{arith}
-use lib.ListN.{length, take, drop, length-take, length-drop}
+use lib.ListN.{length, take, drop, length-append, length-take, length-drop}
 use lib.Seq.{take-length}
 use lib.Dec.{eqb}
 use Rattle.paper.specs.Avp.{avp_of}
@@ -20,13 +20,15 @@ use Rattle.paper.specs.Answer.{item, echoed, each_of}
 use Rattle.std.specs.Prelude.{Some, None}
 use Rattle.paper.proofs.AvpsLaws.{Each, Stands, Breaks, stands_avp, avps_stand}
 use Rattle.avp.specs.Walk.{items}
-use Rattle.avp.specs.Step.{avp_at, key_at}
+use Rattle.avp.specs.Step.{avp_at, step_at, key_at}
 use Rattle.avp.specs.Found.{found_at, Inside, data_of}
 use Rattle.avp.specs.declared.cursor.Avp.{Avp}
+use Rattle.avp.specs.declared.cursor.Cursor.{Cursor}
+use Rattle.avp.specs.declared.cursor.Step.TheVariants.{Item, End, Bad}
 use Rattle.avp.specs.Written.{Room, Appended}
 use Rattle.avp.specs.declared.write.Writer.{Writer}
-use Rattle.avp.proofs.WriteLaws.{appended_then, appended_nothing}
-use Rattle.avp.proofs.StepLaws.{inside-at, data_at}
+use Rattle.avp.proofs.WriteLaws.{appended_then, appended-same, appended_nothing, room_behind}
+use Rattle.avp.proofs.StepLaws.{avps-end, avps_bad, avps-item, item-avp, inside-at, data_at}
 use Rattle.avp.proofs.FindLaws.{found-lies, found_nothing}
 use Rattle.avp.proofs.MovedLaws.{move_by, moved, avps_moved, first_of_based}
 use Rattle.answer.specs.Parts.{copied, session_echo, proxy_echo}
@@ -57,8 +59,59 @@ module _ {w w' : Writer} {all rest : List ℕ} where
   copied_more {xs} {rest'} e c p =
       record { done = c.done ++ xs; split = c.split ∙ ap (λ (r : List ℕ). c.done ++ r) e ∙ sym (append_assoc c.done xs rest'); wrote = appended_then c.wrote p }
 
+  -- the end
+  pub copied_all : rest ≡ [] → Copied w all rest w' → Appended w all w'
+  copied_all e c = appended-same (sym (c.split ∙ rw (e, append-nil))) c.wrote
+
+  -- there is room for what is left
+  pub copied-room : Room w (length all) → Copied w all rest w' → Room w' (length rest)
+  copied-room r c =
+      let n = ap length c.split ∙ length-append c.done rest in
+      room_behind (length rest) c.wrote (omega arith)
+
 pub copied_none : (w : Writer) {all rest : List ℕ} → Room w (length all) → all ≡ rest → Copied w all rest w
 copied_none w r e = record { done = []; split = e; wrote = appended_nothing w (omega arith) }
+
+-- the Proxy-Infos from a place on
+abbrev pub from : List ℕ → ℕ → List ℕ
+from s at = each_of proxy_info (avps (0 + at) (drop at s))
+
+pub from_start : (s : List ℕ) {at : ℕ} → at ≡ 0 → each_of proxy_info (avps 0 s) ≡ from s at
+from_start s e = rw e
+
+module _ (s : List ℕ) (at : ℕ) where
+  pub from_end : End ≡ step_at s at → from s at ≡ []
+  unfolding each_of
+  from_end e = ap (each_of proxy_info) (avps-end 0 s at e)
+
+  pub from_bad : {p : ℕ} → Bad p ≡ step_at s at → from s at ≡ []
+  unfolding each_of
+  from_bad e = ap (each_of proxy_info) (avps_bad 0 s at e)
+
+  module _ {a : Avp} {next : Cursor} (e : Item a next ≡ step_at s at) where
+    item-key : has_key 0 284 (avp_of (drop at s)) ≡ eqb a.vendor 0 && eqb a.code 284
+    unfolding has_key avp_of avp_at
+    item-key = ap (λ (b : Avp). eqb b.vendor 0 && eqb b.code 284) (sym (item-avp s at e))
+
+    item-body : (avp_of (drop at s)).body ≡ data_of s a
+    unfolding avp_of
+    item-body = sym (ap (data_of s) (item-avp s at e) ∙ data_at s at)
+
+    -- an AVP and all behind it
+    pub from_item : from s at ≡ copied s a ++ from s next.at
+    unfolding each_of placed copied
+    from_item = ap (each_of proxy_info) (avps-item 0 s at e) ∙ rw (item-key, item-body) (go (eqb a.vendor 0 && eqb a.code 284))
+      where
+        go : (b : Bool) → cond b (item proxy_info (data_of s a) ++ from s next.at) (from s next.at) ≡ cond b (item proxy_info (data_of s a)) [] ++ from s next.at
+        go true = refl
+        go false = refl
+
+    -- there is room for what is copied of an AVP
+    pub room_for_item : {all : List ℕ} {w w' : Writer} → Room w (length all) → Copied w all (from s at) w' → Room w' (length (copied s a))
+    room_for_item h c =
+        let r = copied-room h c in
+        let n = ap length from_item ∙ length-append (copied s a) (from s next.at) in
+        omega arith
 
 -- the Proxy-Infos in the list that a walk gives
 abbrev pub copies : List ℕ → List Avp → List ℕ

@@ -4,12 +4,14 @@ use mathlib.Core.Path.{◌≡◌, refl, sym, ap, ◌∙◌}
 use mathlib.Core.Bool.{Bool, true, false, cond, false≢true}
 use mathlib.Core.Option as Math
 use mathlib.Core.Option.{none, some}
-use mathlib.Core.List.{List, []}
+use mathlib.Core.List.{List, [], append-nil}
 use Prim.Native.Nat.{ℕ, zero, suc, ◌+◌, ◌%◌, ◌≤◌}
 use native.Mathlib.Omega.{arith}
 use lib.ListN.{length, get_or, replicate, length-take, length-drop, get_or-eq_default}
 use Rattle.std.specs.Prelude.{Option, Some, None}
 use Rattle.wire.specs.Number.{be, num_at}
+use Rattle.wire.specs.Put.{Wrote}
+use Rattle.wire.proofs.PutLaws.{put-nil}
 use Rattle.paper.specs.Avp.{Avp, has_v, head_size, padded, size_of, flags_of, code_of, vendor_of, framed, avp_of, bare_of, as_received, flags_for, written}
 use Rattle.paper.specs.Profile.{failed_avp}
 use Rattle.paper.specs.Answer.{item, failed_item}
@@ -19,21 +21,25 @@ use Rattle.paper.specs.ShownIn.{LiesIn, ShownIn}
 use Rattle.paper.specs.declared.Failed.{Failed}
 use Rattle.paper.specs.declared.Failed.TheVariants.{Whole, Bare, Missing}
 use Rattle.dictionary.specs.declared.Key.{Key}
-use Rattle.paper.proofs.AvpLaws.{framed-least, framed-sizes, padded-least, padded-most, head_size-most, padded-fours}
+use Rattle.paper.proofs.AvpLaws.{framed-least, framed-sizes, padded-least, padded-most, head_size-least, head_size-most, padded-fours}
 use Rattle.paper.proofs.AvpsLaws.{size-read}
 use Rattle.paper.proofs.WrittenLaws.{length_as_received}
 use Rattle.avp.specs.Step.{step_at, key_at}
 use Rattle.avp.specs.Found.{Inside, data_of}
-use Rattle.avp.specs.Written.{received}
+use Rattle.avp.specs.Written.{group_head, received}
 use Rattle.avp.specs.declared.cursor.Avp.{Avp as Read}
 use Rattle.avp.specs.declared.cursor.Cursor.{Cursor}
 use Rattle.avp.specs.declared.cursor.Step.{Step}
 use Rattle.avp.specs.declared.cursor.Step.TheVariants.{Item, End, Bad}
 use Rattle.avp.proofs.StepLaws.{end-place, bad_unframed, item-avp, item-inside}
-use Rattle.avp.proofs.WriteLaws.{received-at, length-written}
+use Rattle.avp.proofs.WriteLaws.{received-at, group_parts, length-written}
 use Rattle.answer.specs.Parts.{shown_bytes}
 
 -- ---- by the case of `Failed`
+
+pub shown-nothing : (m : List ℕ) {o : Option Failed} → o ≡ None → [] ≡ shown_bytes (failed_in m o)
+unfolding failed_in shown_bytes
+shown-nothing m e = rw e
 
 module _ (m : List ℕ) {f : Failed} where
   pub shown-whole : {at to : ℕ} → f ≡ Whole at to → as_received (avp_of (stretch m at to)) ≡ shown_bytes (failed_in m (Some f))
@@ -51,6 +57,9 @@ module _ (m : List ℕ) {f : Failed} where
   pub readable-whole : {at to : ℕ} → f ≡ Whole at to → ShownIn m (Some f) → LiesIn m at to × (framed (stretch m at to) ≡ true)
   readable-whole e r = rw e at r
 
+  pub readable-bare : {at to : ℕ} → f ≡ Bare at to → ShownIn m (Some f) → LiesIn m at to
+  readable-bare e r = rw e at r
+
 -- ---- the AVP at the front of a stretch
 
 module _ (s : List ℕ) {at : ℕ} (z : at ≡ 0) where
@@ -62,11 +71,17 @@ module _ (s : List ℕ) {at : ℕ} (z : at ≡ 0) where
   front_received {a} {x = x} e f d =
       ap (λ (k : Key). received k.code a.flags k.vendor x) f ∙ ap (received a.code a.flags a.vendor) d ∙ received-at s at (item-avp s at e) ∙ rw z
 
-  -- an AVP stands there, and neither the end nor a fault
+  -- an AVP stands there, so it is neither the end nor a fault
+  pub front_no_end : framed s ≡ true → End ≡ step_at s at → ⊥
+  front_no_end f e = let l = framed-least s f in let p = end-place s at e in omega arith
+
+  pub front_no_fault : framed s ≡ true → {p : ℕ} → Bad p ≡ step_at s at → ⊥
+  front_no_fault f e = false≢true (sym (rw z at (bad_unframed s at e)) ∙ f)
+
   pub front_item : framed s ≡ true → {x : Step} → x ≡ step_at s at → ((a : Read) (next : Cursor) → x ≡ Item a next → ⊥) → ⊥
   front_item f {x = Item a next} e h = h a next refl
-  front_item f {x = End} e h = let l = framed-least s f in let p = end-place s at e in omega arith
-  front_item f {x = Bad p} e h = false≢true (sym (rw z at (bad_unframed s at e)) ∙ f)
+  front_item f {x = End} e h = front_no_end f e
+  front_item f {x = Bad p} e h = front_no_fault f e
 
 -- ---- a head that may be cut
 
@@ -99,12 +114,34 @@ pub absent_empty : (vendor code : ℕ) {four : Bool} → four ≡ false → writ
 unfolding written
 absent_empty vendor code e = rw e
 
+-- its header is all of it
+pub absent_head : (vendor code : ℕ) {four : Bool} → four ≡ false → group_head vendor code 0 ≡ as_received (absent vendor code four)
+absent_head vendor code e = sym (append-nil (group_head vendor code 0)) ∙ group_parts vendor code [] refl ∙ absent_empty vendor code e
+
 -- ---- Failed-AVP
 
 pub shown-fours : (o : Math.Option Avp) → length (shown_bytes o) % 4 ≡ 0
 unfolding shown_bytes
 shown-fours none = refl
 shown-fours (some a) = rw (length_as_received a) (padded-fours (head_size a.flags + length a.body))
+
+pub shown_takes : (a : Avp) → 8 ≤ length (as_received a)
+shown_takes a =
+    let h = head_size-least a.flags in
+    let p = padded-least (head_size a.flags + length a.body) in
+    rw (length_as_received a) (omega arith)
+
+-- nothing was written: no Failed-AVP
+pub failed_unwritten : (o : Math.Option Avp) {l l' : List ℕ} {start end : ℕ} (at : ℕ) → Wrote l start (shown_bytes o) l' end → end ≡ start → Wrote l at (failed_item o) l' at
+unfolding shown_bytes failed_item
+failed_unwritten none {l} at w e = record { next = omega arith; made = w.made ∙ put-nil _ l ∙ sym (put-nil at l) }
+failed_unwritten (some a) at w e = let t = shown_takes a in let n = w.next in absurd (omega arith)
+
+-- something was written: it is what Failed-AVP holds
+pub failed_written : (o : Math.Option Avp) {l l' : List ℕ} {start end : ℕ} → Wrote l start (shown_bytes o) l' end → (end ≡ start → ⊥) → item failed_avp (shown_bytes o) ≡ failed_item o
+unfolding shown_bytes failed_item
+failed_written none w e = absurd (e (let n = w.next in omega arith))
+failed_written (some a) w e = refl
 
 module _ (m : List ℕ) {o : Option Failed} where
   -- nothing is shown: no Failed-AVP
