@@ -1,6 +1,7 @@
 """contracts.py [--self-test]: no function that another crate or a caller can name is without a statement.
 
-Every `pub fn` and `pub(crate) fn` of crates/*/src has an `ensures`. The public calls are those of crate dymosaw and of crate dymosaw_c, which hands two of them to C, in the
+Every `pub fn` and `pub(crate) fn` of crates/*/src has an `ensures`, and every impl of a trait there the trait's law of what its functions give, or an `ensures` of
+each. The public calls are those of crate dymosaw and of crate dymosaw_c, which hands two of them to C, in the
 modules that their lib.rt make public: none of them has a `requires`, since C and any bytes come in there, and each has its row in docs/STATEMENTS.md, "Two
 outcomes allowed for one input". A call of crate dymosaw_c says word for word what the call of its name in crate dymosaw says, of which the promises speak.
 With --self-test damaged copies must each be found out.
@@ -10,6 +11,8 @@ import re
 from damaged import verdict
 
 PUBLIC = ("crates/dymosaw/src/", "crates/dymosaw_c/src/")
+# The law by which an impl of the trait says what its functions give; one of any other trait says it by the `ensures` of each.
+LAWS = {"From": "from_gives", "TryFrom": "try_from_gives", "Iterator": "next_gives", "Number": "value"}
 PAGE, HEADING = "docs/STATEMENTS.md", "## Two outcomes allowed for one input"
 
 
@@ -41,6 +44,17 @@ def public_functions(text):
     return [(f.group(1), clauses_of(bare, bare.index("(", f.end()))) for f in re.finditer(r'\bpub(?:\(crate\))? (?:const )?(?:extern "C" )?fn (\w+)', bare)]
 
 
+def trait_impls(text):
+    """(trait, type, whether it says what its functions give) of each impl of a trait in a file."""
+    bare = re.sub(r"//[^\n]*", "", text)
+    for head in re.finditer(r"^\s*impl(?:<[^{]*?>)? (?:\w+::)*(\w+)(?:<[^{]*>)? for ([^{]+?) \{", bare, re.M):
+        body = bare[head.end() : closing(bare, head.end() - 1, "{}")]
+        law = re.search(rf"\bghost {LAWS.get(head.group(1), 'ensures')} = \{{([^}}]*)\}}", body)
+        clauses = [clauses_of(body, body.index("(", f.end())) for f in re.finditer(r"\bfn \w+", body)]
+        says = "⊤" not in law.group(1) if law else all(any(word == "ensures" for word, *_ in of) for of in clauses)
+        yield head.group(1), head.group(2), says
+
+
 def is_public(path, texts):
     """The file is one of the product's public modules."""
     home = next((it for it in PUBLIC if path.startswith(it)), None)
@@ -54,6 +68,11 @@ def calls_of(texts):
         if path != PAGE:
             for name, clauses in public_functions(text):
                 yield path, name, clauses, is_public(path, texts)
+
+
+def impls_of(texts):
+    """(path, trait, type, whether it says what its functions give) of each impl of a trait."""
+    return [(path, *impl) for path, text in texts.items() if path != PAGE for impl in trait_impls(text)]
 
 
 def words_of(text):
@@ -86,12 +105,12 @@ def complaints(texts):
             wrong.append(f"{path}: {name} is a public call and has a requires")
         if public and f"`{path.split('/')[1]}:{name}`" not in rows:
             wrong.append(f"{path}: {name} is a public call and has no row in {PAGE}, '{HEADING[3:]}'")
-    return wrong
+    return wrong + [f"{path}: the impl of {trait} for {of} says nothing of its functions" for path, trait, of, says in impls_of(texts) if not says]
 
 
 def count(texts):
     public = [call for *_, call in calls_of(texts)]
-    return f"{len(public)} public functions have an ensures, {sum(map(bool, public))} public calls no requires"
+    return f"{len(public)} public functions have an ensures, {len(impls_of(texts))} impls of traits a law, {sum(map(bool, public))} public calls no requires"
 
 
 # Each damage: a file, one text for another, and the complaint that is due.
@@ -107,6 +126,10 @@ DAMAGES = [
     ("crates/dymosaw/src/serve.rt", "    ensures bytes {", "    requires bytes {", "serve.rt: serve is a public call and has a requires"),
     ("crates/wire/src/put.rt", "pub fn", "pub fn silent(x: u8) -> u8 {\n    x\n}\n\npub fn", "silent ensures nothing"),
     ("crates/avp/src/cursor.rt", "pub fn", "pub fn empty(x: [u8; 4]) -> u8\n    ensures { ⊤ }\n{\n    0\n}\n\npub fn", "empty ensures nothing"),
+    ("crates/dymosaw/src/serve.rt", "    ghost from_gives = ", "    ghost from_given = ", "the impl of From for u32 says nothing of its functions"),
+    ("crates/avp/src/cursor.rt", "    ghost next_gives = { YieldsFirst left };\n", "", "the impl of Iterator for Avps<'a> says nothing of its functions"),
+    ("crates/wire/src/number.rt", "    ghost value = { λ x. x };", "    ghost value = { λ x. ⊤ };", "the impl of Number for u8 says nothing of its functions"),
+    ("crates/wire/src/put.rt", "pub fn", "impl Default for Silence {\n    fn default() -> Self {\n        Silence\n    }\n}\n\npub fn", "the impl of Default for Silence says nothing"),
 ]
 
 
