@@ -49,7 +49,7 @@ fn one_frame(
     let mut line = [0u8; LINE_ROOM];
     let step = dymosaw::desk::step(table, desk, &frame[..got], &mut line);
     output.write_all(&line[..step.line]).ok()?;
-    step.next
+    step.next.continue_value()
 }
 
 // A proved loop has to end, and nothing says that the input does: so it counts its frames up to a number that no run reaches.

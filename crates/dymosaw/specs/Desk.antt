@@ -1,6 +1,7 @@
 -- What the desk's functions are given and leave: a turn made in the desk's buffer, and a step with its line.
 -- Assumes nothing.
-use Rattle.std.specs.Prelude.{◌≡◌, ℕ, ◌+◌, ◌%◌, ◌^◌, ◌≤◌, Bool, false, cond, List, length, take, drop, Option, Some, None, MatchOption}
+use Rattle.std.specs.Prelude.{◌≡◌, ℕ, ◌+◌, ◌%◌, ◌^◌, ◌≤◌, Bool, false, cond, List, length, take, drop, Option, MatchOption}
+use Rattle.std.specs.declared.ops.ControlFlow.TheVariants.{Continue, Break}
 use Rattle.wire.specs.Put.{put}
 use Rattle.paper.specs.declared.Line.{Line}
 use Rattle.paper.specs.Layout.{most_records}
@@ -39,16 +40,20 @@ Framed f r =
 -- the turn `u` was made in the buffer `b`, which it left as `b'`: its table stands at the start, later bytes stay; all stays where the run ends
 pub record Made (u : Turn) (b b' : List ℕ) (r : Turned) : Type 0 where
   pub line : r.line ≡ u.line
-  pub used : r.used ≡ cond u.goes_on (Some (length u.table)) None
+  pub used : r.used ≡ cond u.goes_on (Continue (length u.table)) (Break (length u.table))
   pub buffer : b' ≡ put 0 u.table b
   pub ended : u.goes_on ≡ false → b' ≡ b
 
 abbrev pub desk_at : ℕ → ℕ → Desk
 desk_at used number = record { used = used; number = number }
 
+-- where the run stands after the turn `u`, whether it goes on or ends: the bytes of its table, and the next frame's number
+abbrev pub desk_after : Turn → Desk → Desk
+desk_after u d = desk_at (length u.table) ((d.number + 1) % 2 ^ 64)
+
 -- the turn `u` was made, and its line stands at the start of the line's buffer `l`, which was left as `l'`
 pub record Told (u : Turn) (d : Desk) (b l b' l' : List ℕ) (r : Stepped) : Type 0 where
-  pub next : r.next ≡ cond u.goes_on (Some (desk_at (length u.table) ((d.number + 1) % 2 ^ 64))) None
+  pub next : r.next ≡ cond u.goes_on (Continue (desk_after u d)) (Break (desk_after u d))
   pub buffer : b' ≡ put 0 u.table b
   pub ended : u.goes_on ≡ false → b' ≡ b
   pub size : r.line ≡ length (line_bytes d.number u.line)

@@ -11,6 +11,7 @@ use crate::line::{plain, put_line};
 use crate::serve::{Answered, Silent, serve};
 use paper::layout::{CANCEL_SIZE, LEAST_ANSWER, MOST_RECORDS, RECORD_SIZE, TABLE_HEADER};
 use paper::{Line, Verdict};
+use std::ops::ControlFlow;
 use table::valid::valid_table;
 use wire::number::get;
 use wire::put::put_bytes;
@@ -50,18 +51,18 @@ pub struct Desk {
     pub number: u64,
 }
 
-// What a frame came to: what its line says, and how many bytes of the buffer are the table that the run goes on with, if it does.
+// What a frame came to: what its line says, and how many bytes of the buffer are the table after it, where the run goes on and where it ends.
 #[derive(Clone, Copy, Debug, PartialEq, Eq)]
 pub struct Turned {
     pub line: Line,
-    pub used: Option<usize>,
+    pub used: ControlFlow<usize, usize>,
 }
 
-// What the step hands back: how long the line is, and where the run stands after the frame, if it goes on.
+// What the step hands back: how long the line is, and where the run stands after the frame, where it goes on and where it ends.
 #[derive(Clone, Copy, Debug, PartialEq, Eq)]
 pub struct Stepped {
     pub line: usize,
-    pub next: Option<Desk>,
+    pub next: ControlFlow<Desk, Desk>,
 }
 
 // ---- the three kinds
@@ -124,13 +125,13 @@ fn table_turn(buffer: &mut [u8; TABLE_ROOM], used: usize, content: &[u8]) -> Tur
     if !valid_table(content) {
         return Turned {
             line: plain(b'T', 4),
-            used: Some(used),
+            used: ControlFlow::Continue(used),
         };
     }
     put_bytes(buffer, 0, content);
     Turned {
         line: plain(b'T', 0),
-        used: Some(content.len()),
+        used: ControlFlow::Continue(content.len()),
     }
 }
 
@@ -179,7 +180,7 @@ fn take_turn(buffer: &mut [u8; TABLE_ROOM], used: usize, frame: &[u8]) -> Turned
     let Some(kind) = frame_kind(frame) else {
         return Turned {
             line: plain(b'X', 0),
-            used: None,
+            used: ControlFlow::Break(used),
         };
     };
     let content = &frame[DESK_HEAD..];
@@ -189,14 +190,14 @@ fn take_turn(buffer: &mut [u8; TABLE_ROOM], used: usize, frame: &[u8]) -> Turned
             let line = request_line(&mut buffer[..used], content);
             Turned {
                 line,
-                used: Some(used),
+                used: ControlFlow::Continue(used),
             }
         }
         Kind::Correction => {
             let line = correction_line(&mut buffer[..used], content);
             Turned {
                 line,
-                used: Some(used),
+                used: ControlFlow::Continue(used),
             }
         }
     }
@@ -253,8 +254,9 @@ pub fn step(
     let turned = take_turn(buffer, desk.used.min(TABLE_ROOM), frame);
     let length = put_line(line, desk.number, turned.line);
     let number = std::num::wrapping_add_u64(desk.number, 1);
-    Stepped {
-        line: length,
-        next: turned.used.map(|used| Desk { used, number }),
-    }
+    let next = match turned.used {
+        ControlFlow::Continue(used) => ControlFlow::Continue(Desk { used, number }),
+        ControlFlow::Break(used) => ControlFlow::Break(Desk { used, number }),
+    };
+    Stepped { line: length, next }
 }

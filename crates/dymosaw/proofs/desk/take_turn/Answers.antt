@@ -1,14 +1,14 @@
 -- `take_turn` meets its contract: a frame of no kind ends the run, a request and a correction leave the table where it stands.
 -- Assumes nothing.
-use Rattle.std.proofs.Common.{take, ◌∙◌, length-take-le, rules}
+use Rattle.std.proofs.Common.{take, ◌∙◌, arith, length-take-le, rules}
 use Rattle.dymosaw.specs.declared.desk.Kind.TheVariants.{Request, Correction}
-use Rattle.dymosaw.proofs.DeskLaws.{made-there, made-ended, last_plain, kind_taken}
+use Rattle.dymosaw.proofs.DeskLaws.{made-there, made-ended-at, last_plain, kind_taken}
 use Rattle.dymosaw.proofs.desk.take_turn.Goals as goal
 
 pub returns-in_default : goal.returns-in_default
 returns-in_default c =
     let t = take c.args.used c.args.buffer.now in
-    made-ended (search rules) (last_plain t c.plain.ensures ∙ c.in_default.ensures t)
+    made-ended-at (search rules) (last_plain t c.plain.ensures ∙ c.in_default.ensures t) (omega arith)
 
 pub returns-in-Request : goal.returns-in-Request
 returns-in-Request c =
