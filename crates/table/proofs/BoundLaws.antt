@@ -1,11 +1,11 @@
 -- A field held against its window of bounds: its first bytes within the range, the others zero.
 -- Assumes nothing.
 use mathlib.Core.Path.{◌≡◌, refl, sym, ap, ◌∙◌}
-use mathlib.Core.Bool.{true, ◌&&◌}
+use mathlib.Core.Bool.{Bool, true, ◌&&◌}
 use mathlib.Core.List.{List, ◌++◌}
 use Prim.Native.Nat.{ℕ, ◌+◌, ◌-◌, ◌≤◌}
 use native.Mathlib.Omega.{arith}
-use lib.ListN.{length, take, drop, replicate, length-replicate}
+use lib.ListN.{length, take, drop, get_or, replicate, length-replicate}
 use Rattle.std.specs.List.{flat_map}
 use Rattle.std.proofs.lemmas.List.{take-replicate, drop-replicate}
 use Rattle.wire.specs.Number.{Bytes}
@@ -17,6 +17,17 @@ use Rattle.table.specs.Bounds.{half, bound, halves}
 use Rattle.table.proofs.PartLaws.{lent}
 
 -- ---- the bounds
+
+pub first-bound : (v : ℕ) (s : List ℕ) → s ≡ bound v → get_or s 0 0 ≡ v
+unfolding bound
+first-bound v s e = rw e
+
+pub is_bound : (v : ℕ) (s : List ℕ) → s ≡ bound v → s ≡ bound (get_or s 0 0)
+is_bound v s e = e ∙ ap bound (sym (first-bound v s e))
+
+pub length-bound : (v : ℕ) → length (bound v) ≡ half + half
+unfolding bound
+length-bound v = refl
 
 -- the halves, one behind the other
 pub flat-halves : (v : ℕ) → flat_map (λ x. x) (halves v) ≡ bound v
@@ -51,6 +62,20 @@ between_window l h at most n r fits few small =
     ap (λ (q : ℕ). between (part (half - n) q (bound l)) (part (half - n) q (bound h)) (part at q r)) e
     ∙ rw (window l n m (omega arith) (omega arith), window h n m (omega arith) (omega arith), part-split at n m r)
     (between-filled l h n m (part at n r) (part (at + n) m r) (length_part at n r (omega arith)) (length_part (at + n) m r (omega arith)))
+
+-- the same of bounds that are known by their first bytes, lent by a start and an end
+pub lent_bounds : (at most n : ℕ) (r low high : List ℕ) → at + most ≤ length r → n ≤ most → most ≤ half → low ≡ bound (get_or low 0 0) → high ≡ bound (get_or high 0 0)
+    → between (take (half - n + most - (half - n)) (drop (half - n) low)) (take (half - n + most - (half - n)) (drop (half - n) high)) (take (at + most - at) (drop at r))
+    ≡ all_in (get_or low 0 0) (get_or high 0 0) (part at n r) && zeros (part (at + n) (most - n) r)
+lent_bounds at most n r low high fits few small bl bh =
+    rw (lent (half - n) most low, lent (half - n) most high, lent at most r)
+    (ap (λ (s : List ℕ). between (part (half - n) most s) (part (half - n) most high) (part at most r)) bl
+    ∙ ap (λ (s : List ℕ). between (part (half - n) most (bound (get_or low 0 0))) (part (half - n) most s) (part at most r)) bh
+    ∙ between_window (get_or low 0 0) (get_or high 0 0) at most n r fits few small)
+
+-- a test with bounds, with the bounds' bytes by name
+pub bounds_named : (l h : ℕ) (low high s s' : List ℕ) {v : Bool} → low ≡ bound l → high ≡ bound h → v ≡ all_in (get_or low 0 0) (get_or high 0 0) s && zeros s' → v ≡ all_in l h s && zeros s'
+bounds_named l h low high s s' el eh e = e ∙ rw (first-bound l low el, first-bound h high eh)
 
 -- the same as the code lends it
 pub lent_window : (at most n l h : ℕ) (r : List ℕ) (low high : List (List ℕ)) → at + most ≤ length r → n ≤ most → most ≤ half → low ≡ halves l → high ≡ halves h

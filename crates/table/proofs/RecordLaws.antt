@@ -1,7 +1,7 @@
 -- The records behind the header one by one: each is `record_of`, and what is told of all of them is what 01 says of a table.
 -- Assumes nothing.
 use mathlib.Core.Path.{◌≡◌, refl, sym, ap, subst, ◌∙◌}
-use mathlib.Core.Bool.{Bool, true, false, ◌&&◌, and_assoc, and_comm, and-true}
+use mathlib.Core.Bool.{Bool, true, false, ◌&&◌, not, and_assoc, and_comm, and-true}
 use mathlib.Core.List.{List, []}
 use Prim.Native.Nat.{ℕ, zero, suc, ◌+◌, ◌-◌, ◌*◌, ◌/◌, ◌<◌}
 use native.Mathlib.Numerals.{add-one}
@@ -9,7 +9,11 @@ use native.Mathlib.Omega.{arith}
 use lib.Dec.{ltb}
 use lib.ListN.{length, get_or, take, drop}
 use lib.Seq.{drop-drop}
+use borrow.Author.Tests.{not-true, not-false}
+use Rattle.std.proofs.Common.{true≢false, Bor, Some, None, Option, MatchOption}
+use Rattle.std.proofs.lemmas.Bool.{and_from, and_left, and_parts, and_right}
 use Rattle.std.specs.Bool.{MatchBool}
+use Rattle.std.specs.Slice.{IsItemAt}
 use Rattle.std.specs.List.{AllWithin, HoldsAt, IsAllAdjacentAnswer, AllAdjacentBelow}
 use Rattle.std.specs.Simd.{first_chunks}
 use Rattle.wire.specs.Number.{num}
@@ -17,7 +21,7 @@ use Rattle.wire.specs.Put.{part}
 use Rattle.wire.specs.Stretch.{zeros}
 use Rattle.paper.specs.Layout.{table_header, record_size, subscription_at, mme_at, sgsn_at}
 use Rattle.paper.specs.Table.{imsi_right, two_bits, plmn_count_right, plmns_right, purged_right, name_right, imei_right, rules, all_hold, record_right, record_of, count_of, imsi_of, imsi_number, all_below, ascends, header_right, valid}
-use Rattle.paper.proofs.TableLaws.{Header, all_below_intro, all_below-false}
+use Rattle.paper.proofs.TableLaws.{Header, header_parts, all_below_intro, all_below-false}
 use Rattle.table.specs.Records.{records_of}
 
 -- ---- `a && b`, where `b` is asked only if `a` holds
@@ -27,6 +31,14 @@ asked e h w = rw (sym e ∙ h) w
 
 pub not_asked : {a A v : Bool} (B : Bool) → a ≡ A → a ≡ false → v ≡ a → v ≡ A && B
 not_asked B e h w = rw (sym e ∙ h) (w ∙ h)
+
+-- ---- `if !test(..)`: what the test says on either way
+
+pub told-false : {v f : Bool} → v ≡ f → not v ≡ true → f ≡ false
+told-false {v} e h = sym e ∙ not-true v h
+
+pub told-true : {v f : Bool} → v ≡ f → not v ≡ false → f ≡ true
+told-true {v} e h = sym e ∙ not-false v h
 
 -- ---- each is a record
 
@@ -50,6 +62,10 @@ records-at t i d h =
     chunk_at ((length t - table_header) / record_size) i (drop table_header t) d h ∙ ap (take record_size) (drop-drop (record_size * i) table_header t)
 
 -- ---- all of them
+
+-- a record that may stand behind another: it is right, and its IMSI above
+abbrev pub follows : List ℕ → List ℕ → Bool
+follows before r = record_right r && ltb (num (imsi_of before)) (num (imsi_of r))
 
 module _ (t : List ℕ) (h : Header t) where
   pub counted_records : length (records_of t) ≡ count_of t
@@ -84,6 +100,60 @@ module _ (t : List ℕ) (h : Header t) where
 
   pub ascending_told : (rs : List (List ℕ)) (b : Bool) → rs ≡ records_of t → IsAllAdjacentAnswer (λ x y b. b ≡ ltb (num (imsi_of x)) (num (imsi_of y))) rs b → b ≡ all_below (ascends t) (count_of t)
   ascending_told rs b e w = rising_told b (subst (λ (x : List (List ℕ)). IsAllAdjacentAnswer (λ x y b. b ≡ ltb (num (imsi_of x)) (num (imsi_of y))) x b) e w)
+
+  -- a record and the next, as one pass tests them
+  next-follows : (k : ℕ) (d : List ℕ) → k + 1 < count_of t → follows (get_or (records_of t) k d) (get_or (records_of t) (k + 1) d) ≡ record_right (record_of t (suc k)) && ascends t (suc k)
+  next-follows k d l = rw (next-ascends k d l, record-counted (k + 1) d l, add-one) refl
+
+  next_right : AllAdjacentBelow (λ x y. true ≡ follows x y) (records_of t) (length (records_of t)) → (k : ℕ) → suc k < count_of t → (record_right (record_of t (suc k)) ≡ true) × (ascends t (suc k) ≡ true)
+  next_right w k l = let m : k + 1 < count_of t = omega arith in and_parts _ _ (sym (next-follows k [] m) ∙ sym (w k [] (omega (arith, counted_records))))
+
+  each-right : (0 < count_of t → record_right (record_of t 0) ≡ true) → AllAdjacentBelow (λ x y. true ≡ follows x y) (records_of t) (length (records_of t)) → (i : ℕ) → i < count_of t → record_right (record_of t i) ≡ true
+  each-right first w zero l = first l
+  each-right first w (suc i) l = (next_right w i l).0
+
+  each-ascends : AllAdjacentBelow (λ x y. true ≡ follows x y) (records_of t) (length (records_of t)) → (i : ℕ) → i < count_of t → ascends t i ≡ true
+  unfolding ascends
+  each-ascends w zero l = refl
+  each-ascends w (suc i) l = (next_right w i l).1
+
+  not-followed : (k : ℕ) → suc k < count_of t → record_right (record_of t (suc k)) && ascends t (suc k) ≡ false → all_below (λ i. record_right (record_of t i)) (count_of t) && all_below (ascends t) (count_of t) ≡ false
+  not-followed k l e = go (record_right (record_of t (suc k))) refl
+    where
+      go : (b : Bool) → record_right (record_of t (suc k)) ≡ b → all_below (λ i. record_right (record_of t i)) (count_of t) && all_below (ascends t) (count_of t) ≡ false
+      go true q = let f : ascends t (suc k) ≡ false = rw q at e in and_right (all_below (λ i. record_right (record_of t i)) (count_of t)) (all_below (ascends t) (count_of t)) (all_below-false (ascends t) (count_of t) (suc k) l f)
+      go false q = and_left (all_below (λ i. record_right (record_of t i)) (count_of t)) (all_below (ascends t) (count_of t)) (all_below-false (λ i. record_right (record_of t i)) (count_of t) (suc k) l q)
+
+  -- one pass: the first record is right, and each of the others may stand behind the one before it
+  pass_told : (0 < count_of t → record_right (record_of t 0) ≡ true) → (b : Bool) → IsAllAdjacentAnswer (λ x y b. b ≡ follows x y) (records_of t) b → b ≡ all_below (λ i. record_right (record_of t i)) (count_of t) && all_below (ascends t) (count_of t)
+  pass_told first true w = sym (and_from _ _ (all_below_intro (λ i. record_right (record_of t i)) (count_of t) (each-right first w)) (all_below_intro (ascends t) (count_of t) (each-ascends w)))
+  pass_told first false w =
+      let l : w.0 + 1 < count_of t = omega (arith, counted_records, w.1) in
+      sym (not-followed w.0 (omega arith) (sym (next-follows w.0 [] l) ∙ sym (w.2 [])))
+
+  -- the first record was judged `b`; where there is none, that is right
+  first_right : (o : Option (Bor (List ℕ))) (b : Bool) → IsItemAt (records_of t) 0 o → MatchOption o (b ≡ true) (λ r. b ≡ record_right r.now) → b ≡ true → 0 < count_of t → record_right (record_of t 0) ≡ true
+  first_right None b item told e l = absurd (omega (arith, item.3, counted_records))
+  first_right (Some r) b item told e l = ap record_right (sym (item.3.1 [] ∙ record-counted 0 [] l)) ∙ sym told ∙ e
+
+  first_wrong : (o : Option (Bor (List ℕ))) (b : Bool) → IsItemAt (records_of t) 0 o → MatchOption o (b ≡ true) (λ r. b ≡ record_right r.now) → b ≡ false → all_below (λ i. record_right (record_of t i)) (count_of t) && all_below (ascends t) (count_of t) ≡ false
+  first_wrong None b item told e = absurd (true≢false (sym told ∙ e))
+  first_wrong (Some r) b item told e =
+      let l : 0 < count_of t = omega (arith, item.3.0, counted_records) in
+      and_left (all_below (λ i. record_right (record_of t i)) (count_of t)) (all_below (ascends t) (count_of t))
+      (all_below-false (λ i. record_right (record_of t i)) (count_of t) 0 l (ap record_right (sym (item.3.1 [] ∙ record-counted 0 [] l)) ∙ sym told ∙ e))
+
+-- the pass over the records is what is left of a table with a right header
+module _ (t : List ℕ) (h : header_right t ≡ true) (o : Option (Bor (List ℕ))) {a : Bool} (told : MatchOption o (a ≡ true) (λ r. a ≡ record_right r.now)) (rs : List (List ℕ)) (item : IsItemAt rs 0 o) (e : rs ≡ records_of t) where
+  pub valid-pass : (rs' : List (List ℕ)) (b : Bool) → IsAllAdjacentAnswer (λ x y b. b ≡ follows x y) rs' b → rs' ≡ records_of t → a ≡ true → b ≡ valid t
+  unfolding valid
+  valid-pass rs' b w f right =
+      let p = header_parts t h in
+      rw h (pass_told t p (first_right t p o a (subst (λ (x : List (List ℕ)). IsItemAt x 0 o) e item) told right) b (subst (λ (x : List (List ℕ)). IsAllAdjacentAnswer (λ x y b. b ≡ follows x y) x b) f w))
+
+  pub not_valid-first : a ≡ false → a ≡ valid t
+  unfolding valid
+  not_valid-first wrong = rw h (wrong ∙ sym (first_wrong t (header_parts t h) o a (subst (λ (x : List (List ℕ)). IsItemAt x 0 o) e item) told wrong))
 
 -- both tests of all records are what is left of a table with a right header
 module _ (t : List ℕ) (h : header_right t ≡ true) {a : Bool} (told : a ≡ all_below (λ i. record_right (record_of t i)) (count_of t)) where

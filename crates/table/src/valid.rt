@@ -1,10 +1,11 @@
 // Whether bytes are a valid table, for any bytes. This is the hot path: every request tests the whole table first.
 // A record is tested rule by rule, each over a whole stretch by a loop that runs wide. A field with a count is held against constant bounds: see `Range`.
-ghost use Rattle.std.specs.Prelude.{◌≡◌, true, ◌&&◌, ◌+◌, ◌-◌, ◌≤◌, length, leb};
+ghost use Rattle.std.specs.Prelude.{◌≡◌, true, ◌&&◌, ◌+◌, ◌-◌, ◌≤◌, length, leb, ltb};
+ghost use Rattle.wire.specs.Number.{num};
 ghost use Rattle.wire.specs.Put.{part};
 ghost use Rattle.wire.specs.Stretch.{all_in, zeros};
 ghost use Rattle.paper.specs.Layout.{table_header, record_size};
-ghost use Rattle.paper.specs.Table.{counted, imsi_right, plmns_right, plmn_count_right, purged_right, imei_right, record_right, header_right, valid};
+ghost use Rattle.paper.specs.Table.{counted, imsi_right, plmns_right, plmn_count_right, purged_right, imei_right, record_right, imsi_of, header_right, valid};
 ghost use Rattle.table.specs.Bounds.{half, halves, first_of};
 
 use crate::{lookup, record};
@@ -145,14 +146,21 @@ fn right_header(t: &[u8]) -> bool
         & (t.len() == layout::TABLE_HEADER + layout::RECORD_SIZE * n)
 }
 
-// Each record is right, and its IMSI above that of the record before.
+// A record that may stand behind another: it is right, and its IMSI above that of the one before.
+fn follows(before: &[u8; RECORD_SIZE], r: &[u8; RECORD_SIZE]) -> bool
+    ensures { result ≡ record_right r.now && ltb (num (imsi_of before.now)) (num (imsi_of r.now)) }
+{
+    right_record(r) && lookup::key_less(lookup::key_at(before, 0), lookup::key_at(r, 0))
+}
+
+// Each record is right, and its IMSI above that of the record before: one pass, left at the first that is not.
 fn right_records(t: &[u8]) -> bool
     requires { header_right t.now ≡ true }
     ensures { result ≡ valid t.now }
 {
     let records = record::records(t);
-    records.iter().all(|r| right_record(r))
-        && records.is_sorted_by(|a, b| lookup::imsi_number(a) < lookup::imsi_number(b))
+    records.first().is_none_or(|r| right_record(r))
+        && records.is_sorted_by(|before, r| follows(before, r))
 }
 
 // "A table is valid exactly if all this holds"

@@ -5,4 +5,4 @@ use Rattle.table.proofs.KeyLaws.{two_words}
 use Rattle.table.proofs.lookup.imsi_number.Goals as goal
 
 pub returns : goal.returns
-returns c = two_words c.args.s.now _ _ c.requires (search rules) (search rules)
+returns c = two_words c.args.s.now 0 _ _ c.requires (search rules) (search rules)
