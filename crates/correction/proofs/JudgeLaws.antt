@@ -1,11 +1,11 @@
 -- What each test of a correction says of the judgement: the first that fails is the refusal, and past all of them the record decides.
 -- Assumes nothing.
-use Rattle.std.proofs.Common.{◌≡◌, ℕ, ◌+◌, ◌-◌, ◌<◌, ◌≤◌, Bool, true, false, not, ◌||◌, eqb, ltb, ◌≢◌, List, length, get_or, take, drop, Result, MatchResult, sym, refl, ap, ◌∙◌, arith, length-drop, le-ltb, lt-ltb, eq-eqb, ne_eqb}
+use Rattle.std.proofs.Common.{◌≡◌, ℕ, ◌+◌, ◌-◌, ◌<◌, ◌≤◌, Bool, true, false, not, ◌||◌, eqb, ltb, ◌≢◌, List, length, get_or, take, drop, Result, Ok, Err, IfOk, MatchResult, sym, refl, ap, ◌∙◌, subst, arith, length-drop, le-ltb, lt-ltb, eq-eqb, ne_eqb}
 use Rattle.std.proofs.lemmas.Result.{MatchResult-weaker}
 use mathlib.Core.Option.{Option, none, some}
 use Rattle.wire.specs.Number.{num_at}
 use Rattle.paper.specs.Table.{valid, lookup, record_of, change_of}
-use Rattle.paper.specs.Correction.{frame_head, frame_version, frame_kind, frame_imsi, frame_seen, frame_value, value_size, value_right, refused, on_record, corrected}
+use Rattle.paper.specs.Correction.{frame_head, frame_version, frame_kind, frame_imsi, frame_seen, frame_value, value_size, value_right, Corrected, accepted, refused, on_record, corrected}
 use Rattle.paper.specs.Clerks.{first, later}
 use Rattle.paper.proofs.CorrectionCases.{tests}
 use Rattle.paper.proofs.TableLaws.{valid_parts, lookup-inside}
@@ -15,7 +15,9 @@ use Rattle.correction.specs.declared.kind.Kind.TheVariants.{Subscription, Restri
 use Rattle.correction.specs.declared.refusal.Refusal.{Refusal}
 use Rattle.correction.specs.declared.refusal.Refusal.TheVariants.{LengthWrong, VersionWrong, KindUnknown, LengthWrongForKind, ValueNotValid, NoSuchImsi, ChangeDiffers}
 use Rattle.correction.specs.Kind.{code_of, Decodes}
-use Rattle.correction.specs.Judged.{HeadRight, ValueRight, Refused, RecordFound, RecordRefused}
+use Rattle.correction.specs.declared.judge.Accepted.{Accepted}
+use Rattle.correction.specs.Refusal.{came_to}
+use Rattle.correction.specs.Judged.{HeadRight, ValueRight, Refused, RecordFound, RecordRefused, judged_as, Ready, Judges}
 use Rattle.correction.proofs.KindLaws.{rest-whole}
 
 or_right : (a b : Bool) → b ≡ true → a || b ≡ true
@@ -52,7 +54,7 @@ module _ (f : List ℕ) where
         first-refused t f 12 (λ q. absurd (omega arith)) (later (ap not right) (later (length-right long whole) (first (ap not (ne_eqb (get_or f 2 0) frame_version h)))))
 
     module _ (version : get_or f 2 0 ≡ frame_version) where
-      kind-unknown : value_size (frame_kind f) ≡ 0 → Refused f KindUnknown
+      pub kind-unknown : value_size (frame_kind f) ≡ 0 → Refused f KindUnknown
       unfolding tests
       kind-unknown e t right =
           first-refused t f 13 (λ q. absurd (omega arith))
@@ -132,3 +134,17 @@ module _ (t f : List ℕ) (i : ℕ) (found : lookup (frame_imsi f) t ≡ some i)
   pub accepts_record : valid t ≡ true → change_of (record_of t i) ≡ frame_seen f → RecordFound t f i
   accepts_record right e =
       record { inside = lookup-inside (frame_imsi f) t i (valid_parts t right) found; accepts = on_record_accepted t f i found (eq-eqb (change_of (record_of t i)) (frame_seen f) e) }
+
+-- ---- what a judgement comes to, once it is carried out
+
+module _ {t f : List ℕ} {x : Corrected} {r : Result Accepted Refusal} (j : Judges r t f x) where
+  pub refused_came_to : (e : Refusal) → r ≡ Err e → came_to (Err e) t ≡ x
+  unfolding refused
+  refused_came_to e q = sym (ap (λ (p : Result Accepted Refusal). judged_as p t f) q) ∙ j.outcome
+
+  pub accepted-ready : (a : Accepted) → r ≡ Ok a → Ready a t f
+  accepted-ready a q = subst (λ (p : Result Accepted Refusal). IfOk p (λ b. Ready b t f)) q j.ready
+
+  pub accepted_came_to : (a : Accepted) (u : List ℕ) → r ≡ Ok a → u ≡ (accepted a.record f t).table → came_to (Ok tt) u ≡ x
+  unfolding accepted
+  accepted_came_to a u q s = ap (came_to (Ok tt)) s ∙ sym (ap (λ (p : Result Accepted Refusal). judged_as p t f) q) ∙ j.outcome

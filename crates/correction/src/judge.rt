@@ -30,7 +30,7 @@ pub struct Accepted {
 }
 
 // "11 under 24 bytes or length field wrong; 12 version; 13 kind": the kind of a frame whose head is right.
-pub(crate) fn frame_kind(frame: &[u8]) -> Result<Kind, Refusal>
+pub fn frame_kind(frame: &[u8]) -> Result<Kind, Refusal>
     ensures { MatchResult result (HeadRight frame.now) (Refused frame.now) }
 {
     if frame.len() < FRAME_HEAD {
@@ -46,7 +46,7 @@ pub(crate) fn frame_kind(frame: &[u8]) -> Result<Kind, Refusal>
 }
 
 // "14 length wrong for the kind; 15 value not valid in a table". A value of any size can be judged, so that the order of the two tests is 01's alone.
-pub(crate) fn judge_value(frame: &[u8], kind: Kind) -> Result<(), Refusal>
+pub fn judge_value(frame: &[u8], kind: Kind) -> Result<(), Refusal>
     requires { HeadRight frame.now kind }
     ensures { MatchResult result (λ _. ValueRight frame.now) (Refused frame.now) }
 {
@@ -63,7 +63,7 @@ pub(crate) fn judge_value(frame: &[u8], kind: Kind) -> Result<(), Refusal>
 }
 
 // "16 no such IMSI; 17 change number differs": the tests that look into the table, of a frame that is right.
-pub(crate) fn judge_record(table: &[u8], frame: &[u8]) -> Result<usize, Refusal>
+pub fn judge_record(table: &[u8], frame: &[u8]) -> Result<usize, Refusal>
     requires { (valid table.now ≡ true) × (frame_head ≤ length frame.now) }
     ensures { MatchResult result (RecordFound table.now frame.now) (RecordRefused table.now frame.now) }
 {

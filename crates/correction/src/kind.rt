@@ -59,6 +59,26 @@ impl Kind {
     }
 }
 
+// How many bytes the value of the kind with this number has; 0 where there is no such kind.
+pub fn value_size(code: u8) -> usize
+    ensures { result ≡ value_size code }
+{
+    match Kind::try_from(code) {
+        Ok(kind) => kind.value_size(),
+        Err(_) => 0,
+    }
+}
+
+// Whether the value may stand in a table under the kind with this number; where there is no such kind, any may.
+pub fn value_right(code: u8, value: &[u8]) -> bool
+    ensures { result ≡ value_right code value.now }
+{
+    match Kind::try_from(code) {
+        Ok(kind) => kind.value_right(value),
+        Err(_) => true,
+    }
+}
+
 // A count of at most 8 PLMNs, and zeros behind as many.
 pub fn plmns_right(value: &[u8]) -> bool
     ensures { result ≡ nat_le (slice_index value.now 0) most_plmns && zeros (drop (1 + plmn_size * slice_index value.now 0) value.now) }

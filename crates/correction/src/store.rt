@@ -14,7 +14,7 @@ use table::record::{Record, store_bytes, store_change};
 
 // The value of a kind in record `i`.
 #[tactic(auto, unfolding(paper::specs::Correction::value_size, paper::specs::Correction::store_value))]
-pub(crate) fn store_value(table: &mut [u8], i: usize, kind: Kind, value: &[u8])
+pub fn store_value(table: &mut [u8], i: usize, kind: Kind, value: &[u8])
     requires { (record_at i + record_size ≤ length table.old) × (length value.now ≡ value_size (code_of kind)) }
     ensures { table.new ≡ store_value (code_of kind) i value.now table.old }
 {
@@ -30,7 +30,7 @@ pub(crate) fn store_value(table: &mut [u8], i: usize, kind: Kind, value: &[u8])
 }
 
 // "stores the value and adds 1 to the change number, 4,294,967,295 going to 0"
-pub(crate) fn store_correction(table: &mut [u8], accepted: Accepted, frame: &[u8])
+pub fn store_correction(table: &mut [u8], accepted: Accepted, frame: &[u8])
     requires { Ready accepted table.old frame.now }
     ensures { table.new ≡ (accepted_for accepted.record frame.now table.old).table }
 {
