@@ -90,6 +90,9 @@ module _ (m : List ℕ) (a : Asked) (e : a ≡ asked_of m) where
   unfolding experimental
   ruled-stranger host r h s q = q ∙ rw (other-command nor ulr h (λ z. omega arith), is-command nor h, s)
 
+  pub ruled-known : (host r : List ℕ) → a.command ≡ nor → host ≡ sender m → stranger host r ≡ false → none ≡ experimental m r
+  ruled-known host r h s q = ruled-stranger host r h s (rw q refl)
+
   pub ruled-other : (r : List ℕ) → (a.command ≡ ulr → ⊥) → (a.command ≡ nor → ⊥) → none ≡ experimental m r
   unfolding experimental
   ruled-other r n₁ n₂ = rw (not-command ulr n₁, not-command nor n₂)

@@ -15,9 +15,9 @@ use Rattle.wire.proofs.PutLaws.{wrote_then, wrote-same}
 use Rattle.paper.specs.Layout.{entry_size, most_entries, cancel_size}
 use Rattle.paper.specs.Table as Table
 use Rattle.paper.specs.Table.{record_right, name_of}
-use Rattle.paper.specs.Procedures.{Entry, same_name, listed, cancel_list, entry_bytes, cancel_bytes}
+use Rattle.paper.specs.Procedures.{Entry, same_name, registered, listed, cancel_list, entry_bytes, cancel_bytes}
 use Rattle.paper.proofs.EntryLaws.{EachOf, Listable, each_append, listed-each, cancel_list-each, listed-few, cancel_list-few, list_bytes, list_bytes_append, length_list_bytes, cancel_bytes-list}
-use Rattle.procedures.specs.Values.{slot_of, bytes_of, type_number, type_of}
+use Rattle.procedures.specs.Values.{slot_of, bytes_of, type_number, type_of, clears}
 use Rattle.procedures.specs.declared.nodes.Node.{Node}
 use Rattle.procedures.specs.declared.subscriber.Subscriber.{Subscriber}
 use Rattle.procedures.specs.declared.cancel.CancellationType.{CancellationType}
@@ -103,3 +103,11 @@ module _ (slot : Table.Slot) (host r : List ℕ) {how : Option CancellationType}
   pub cancelled-listed : (kind : CancellationType) → how ≡ Some kind → list_bytes (cancel_list slot (type_of how) host r) ≡ list_bytes (listed slot (type_number kind) host r)
   unfolding cancel_list
   cancelled-listed kind e = rw e
+
+  pub kept_clears : how ≡ None → clears slot (type_of how) r ≡ false
+  unfolding clears
+  kept_clears e = rw e
+
+  pub cancelled-clears : (kind : CancellationType) → how ≡ Some kind → clears slot (type_of how) r ≡ registered slot r
+  unfolding clears
+  cancelled-clears kind e = rw e

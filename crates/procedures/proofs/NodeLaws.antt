@@ -1,27 +1,28 @@
 -- A node of a record of a valid table: where its name stands, what clears it; and what a command leaves of the table.
 -- Assumes nothing.
-use mathlib.Core.Path.{◌≡◌, refl, sym, ◌∙◌, subst}
-use mathlib.Core.Bool.{Bool, true, cond, ◌&&◌, ◌||◌, not}
+use mathlib.Core.Path.{◌≡◌, refl, sym, ap, ◌∙◌, subst}
+use mathlib.Core.Bool.{Bool, true, false, cond, ◌&&◌, ◌||◌, not}
 use mathlib.Core.Option as paper
 use mathlib.Core.List.{List, ◌++◌}
 use Prim.Native.Nat.{ℕ, ◌+◌, ◌≤◌, ◌<◌}
 use native.Mathlib.Omega.{arith}
+use lib.Dec.{ltb}
 use lib.ListN.{length, get_or}
 use Rattle.std.specs.Prelude.{Option, Some, None, is_some, unwrap_or, MatchOption}
-use Rattle.wire.specs.Put.{put}
+use Rattle.wire.specs.Put.{part, put}
 use Rattle.paper.specs.Avp.{bit}
 use Rattle.paper.specs.Layout.{record_size, most_name, most_entries}
 use Rattle.paper.specs.Request.{is_name}
 use Rattle.paper.specs.Table as Table
-use Rattle.paper.specs.Table.{record_right, record_at, record_of, sgsn, name_of}
+use Rattle.paper.specs.Table.{record_right, record_at, record_of, mme, sgsn, name_of}
 use Rattle.paper.specs.Fields.{purged_of}
-use Rattle.paper.specs.Procedures.{registered, register, clear, listed, cancelled, cancel_list, updated, located, purges, purged_if, notified, cancel_bytes}
+use Rattle.paper.specs.Procedures.{same_name, is_sender, registered, register, clear, listed, cancelled, cancel_list, updated, located, purges, purged_if, notified, cancel_bytes}
 use Rattle.paper.proofs.FieldLaws as Field
 use Rattle.paper.proofs.FieldLaws.{the_mme, the_sgsn, slot_inside, name-size, purged-size}
 use Rattle.paper.proofs.StoreLaws.{inside-valid, right_valid, long-valid}
 use Rattle.paper.proofs.ProcedureLaws.{Served, served_count, node-served, cancelled-served, located-served, purge_if_served, purges-registered}
 use Rattle.paper.proofs.EntryLaws.{length-name}
-use Rattle.procedures.specs.Values.{Held, slot_of, other_of, type_number, type_of, update_of, clears, Did}
+use Rattle.procedures.specs.Values.{Held, slot_of, other_of, type_number, type_of, update_of, clears, Did, Purged}
 use Rattle.procedures.specs.declared.nodes.Node.{Node}
 use Rattle.procedures.specs.declared.nodes.Node.TheVariants.{Mme, Sgsn}
 use Rattle.procedures.specs.declared.cancel.CancellationType.{CancellationType}
@@ -46,6 +47,17 @@ module _ (n : Node) (r : List ℕ) (right : record_right r ≡ true) where
 
     pub name-few : length (name_of (slot_of n) r) ≤ most_name
     name-few = let s = name-size (slot_of n) r (node_of n) right in let k = name_count in omega arith
+
+    -- the name that code reads
+    module _ (name : List ℕ) (read : name ≡ part ((slot_of n).at + 1) (get_or r (slot_of n).at 0) r) where
+      pub the_name : name ≡ name_of (slot_of n) r
+      unfolding name_of
+      the_name = read
+
+      pub sender-is : (host : List ℕ) {b : Bool} → b ≡ same_name name host → ltb 0 (length name) && b ≡ is_sender (slot_of n) host r
+      sender-is host e =
+          let k : length name ≡ get_or r (slot_of n).at 0 = ap length the_name ∙ name_count in
+          rw (e, k) (ap (λ (x : List ℕ). ltb 0 (get_or r (slot_of n).at 0) && same_name x host) the_name)
 
 -- a node that is cancelled is cleared where it is registered
 pub cleared-is : (slot : Table.Slot) (how : Option CancellationType) (r : List ℕ) → is_some how && registered slot r ≡ clears slot (type_of how) r
@@ -115,6 +127,23 @@ module _ (t : List ℕ) (i : ℕ) (cancel t' cancel' : List ℕ) where
         list = l ∙ rw e;
       }
 
+  -- the same of any two nodes, type and way of cancelling
+  pub both-did : (own other : Node) (kind : ℕ) (type : paper.Option ℕ) (sent : List ℕ) {gone : Bool} {t₁ : List ℕ} → gone ≡ clears (slot_of other) type (record_of t i)
+      → t₁ ≡ register (slot_of own) sent i t → t' ≡ cond gone (clear (slot_of other) i t₁) t₁
+      → cancel' ≡ put 0 (cancel_bytes most_entries (listed (slot_of own) kind sent (record_of t i) ++ cancel_list (slot_of other) type sent (record_of t i))) cancel
+      → Did (updated (slot_of own) (slot_of other) kind type sent (record_of t i) i t) cancel t' cancel'
+  unfolding updated
+  both-did own other kind type sent {gone} {t₁} g a b l =
+      record { table = b ∙ rw (g, a) (cancelled_if (slot_of other) type (record_of t i) i (register (slot_of own) sent i t)); list = l }
+
+  pub located_s6a : (s6a : Bool) (how type : paper.Option ℕ) (sent : List ℕ) → s6a ≡ true → how ≡ type
+      → Did (updated mme sgsn 0 how sent (record_of t i) i t) cancel t' cancel' → Did (located s6a type sent (record_of t i) i t) cancel t' cancel'
+  located_s6a s6a how type sent q w did = rw q (rw w at did)
+
+  pub located_s6d : (s6a : Bool) (how type : paper.Option ℕ) (sent : List ℕ) → s6a ≡ false → how ≡ type
+      → Did (updated sgsn mme 1 how sent (record_of t i) i t) cancel t' cancel' → Did (located s6a type sent (record_of t i) i t) cancel t' cancel'
+  located_s6d s6a how type sent q w did = rw q (rw w at did)
+
   pub notified-did : (how : Option CancellationType) (type : paper.Option ℕ) (sent : List ℕ) {r : List ℕ} {gone : Bool} → type_of how ≡ type → r ≡ record_of t i → gone ≡ clears sgsn (type_of how) r
       → t' ≡ cond gone (clear sgsn i t) t → cancel' ≡ put 0 (cancel_bytes most_entries (cancel_list sgsn (type_of how) sent r)) cancel
       → Did (notified type sent (record_of t i) i t) cancel t' cancel'
@@ -132,3 +161,13 @@ module _ (t : List ℕ) (i : ℕ) (cancel t' cancel' : List ℕ) where
     pub held_notified : (type : paper.Option ℕ) (sent : List ℕ) → Did (notified type sent (record_of t i) i t) cancel t' cancel' → Held t' i
     held_notified type sent did =
         subst (λ (x : List ℕ). Held x i) (sym did.table) (held_served h (cancelled-served i t h.right h.below sgsn type (record_of t i) the_sgsn))
+
+-- both purge bits, one after the other, and the flags that say so
+pub purged_both : (t : List ℕ) (i : ℕ) (sent : List ℕ) (there : Bool) (flags : ℕ) {a b : Bool} {t₁ t₂ : List ℕ} {x y : ℕ} → a ≡ purges mme sent there flags (record_of t i)
+    → b ≡ purges sgsn sent there flags (record_of t i) → t₁ ≡ purged_if a mme i t → t₂ ≡ purged_if b sgsn i t₁ → x ≡ cond a 1 0 → y ≡ cond b 2 0
+    → Purged (purges mme sent there flags (record_of t i)) (purges sgsn sent there flags (record_of t i)) i t (x + y) t₂
+purged_both t i sent there flags pa pb q₁ q₂ f g = record { table = q₂ ∙ rw (q₁, pa, pb); flags = rw (f, g, pa, pb) }
+
+pub flag_small : (b : Bool) (n : ℕ) → cond b n 0 ≤ n
+flag_small true n = omega arith
+flag_small false n = omega arith

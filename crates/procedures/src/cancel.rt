@@ -20,14 +20,14 @@ pub enum CancellationType {
 }
 
 impl CancellationType {
-    pub(crate) fn number(self) -> u8
+    pub fn number(self) -> u8
         ensures { result ≡ type_number self }
     {
         self as u8
     }
 
     // The type for a node that an update of its own kind displaces: "Cancellation-Type 0"; "On S6d, for the SGSN: type 1".
-    pub(crate) fn of_update(node: Node) -> CancellationType
+    pub fn of_update(node: Node) -> CancellationType
         ensures { result ≡ update_of node }
     {
         match node {
@@ -50,7 +50,7 @@ fn put_entry(cancel: &mut [u8], at: usize, node: Node, kind: CancellationType, n
 }
 
 // A registered node is listed. "A name equal to the sender's is never listed."
-pub(crate) fn list_node(
+pub fn list_node(
     cancel: &mut [u8],
     at: usize,
     subscriber: Subscriber,
@@ -72,7 +72,7 @@ pub(crate) fn list_node(
 }
 
 // A node that is cancelled is listed.
-pub(crate) fn list_cancelled(
+pub fn list_cancelled(
     cancel: &mut [u8],
     at: usize,
     subscriber: Subscriber,
@@ -90,7 +90,7 @@ pub(crate) fn list_cancelled(
 }
 
 // The list of a ULR: the displaced node of the request's own interface first, then the other one, and zeros.
-pub(crate) fn list_updated(
+pub fn list_updated(
     cancel: &mut [u8],
     subscriber: Subscriber,
     own: Node,
@@ -107,7 +107,7 @@ pub(crate) fn list_updated(
 }
 
 // The list of a NOR: the node if it is cancelled, and zeros.
-pub(crate) fn list_notified(
+pub fn list_notified(
     cancel: &mut [u8],
     subscriber: Subscriber,
     node: Node,

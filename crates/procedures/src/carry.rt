@@ -66,6 +66,7 @@ fn store_imei_if(t: &mut [u8], i: usize, imei: Option<&[u8]>)
 // ---- ULR
 
 // "Single-Registration lists it with type 1, else Initial-Attach lists it with type 4"; on S6d "Single-Registration has no effect".
+#[tactic(auto, unfolding(paper::specs::Procedures::other_type))]
 fn other_type(flags: Flags) -> Option<CancellationType>
     ensures { type_of result ≡ other_type (bit 1 flags.0) (bit 0 flags.0) (bit 5 flags.0) }
 {

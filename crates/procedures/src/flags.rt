@@ -16,28 +16,28 @@ pub struct Flags(pub u32);
 
 impl Flags {
     // A word that is not there has no bit set.
-    pub(crate) fn of(word: Option<u32>) -> Flags
+    pub fn of(word: Option<u32>) -> Flags
         ensures { result.0 ≡ unwrap_or word 0 }
     {
         Flags(word.unwrap_or(0))
     }
 
     // Of ULR-Flags and of NOR-Flags.
-    pub(crate) fn single_registration(self) -> bool
+    pub fn single_registration(self) -> bool
         ensures { result ≡ bit 0 self.0 }
     {
         bit_of(self.0, 0)
     }
 
     // Of ULR-Flags; "set means S6a".
-    pub(crate) fn on_s6a(self) -> bool
+    pub fn on_s6a(self) -> bool
         ensures { result ≡ bit 1 self.0 }
     {
         bit_of(self.0, 1)
     }
 
     // Of ULR-Flags.
-    pub(crate) fn initial_attach(self) -> bool
+    pub fn initial_attach(self) -> bool
         ensures { result ≡ bit 5 self.0 }
     {
         bit_of(self.0, 5)

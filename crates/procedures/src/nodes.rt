@@ -13,7 +13,7 @@ pub enum Node {
 
 impl Node {
     // Its number in the list: "1 MME or 2 SGSN".
-    pub(crate) fn number(self) -> u8
+    pub fn number(self) -> u8
         ensures { result ≡ (slot_of self).number }
     {
         match self {
@@ -23,7 +23,7 @@ impl Node {
     }
 
     // The name's length stands here in a record, the name behind it.
-    pub(crate) fn name_at(self) -> usize
+    pub fn name_at(self) -> usize
         ensures { result ≡ (slot_of self).at }
     {
         match self {
@@ -33,7 +33,7 @@ impl Node {
     }
 
     // "Bit 0 purged in MME, bit 1 purged in SGSN", in a record and in the flag words of a PUR.
-    pub(crate) fn purge_bit(self) -> u8
+    pub fn purge_bit(self) -> u8
         ensures { result ≡ (slot_of self).purge_bit }
     {
         match self {
@@ -43,7 +43,7 @@ impl Node {
     }
 
     // The other one of a record's two.
-    pub(crate) fn other(self) -> Node
+    pub fn other(self) -> Node
         ensures { result ≡ other_of self }
     {
         match self {

@@ -19,7 +19,7 @@ impl<'a> Subscriber<'a> {
     ghost use Rattle.procedures.specs.Values.{slot_of, Held, bytes_of};
 
     // Record `i` of a valid table.
-    pub(crate) fn at(t: &'a [u8], i: usize) -> Subscriber<'a>
+    pub fn at(t: &'a [u8], i: usize) -> Subscriber<'a>
         requires { Held t.now i }
         ensures { bytes_of result ≡ record_of t.now i }
     {
@@ -29,20 +29,20 @@ impl<'a> Subscriber<'a> {
     }
 
     // The name under which the node is registered, no bytes where it is not.
-    pub(crate) fn name(self, node: Node) -> &'a [u8]
+    pub fn name(self, node: Node) -> &'a [u8]
         ensures { result.now ≡ name_of (slot_of node) (bytes_of self.entry) }
     {
         self.record.counted(node.name_at())
     }
 
-    pub(crate) fn is_registered(self, node: Node) -> bool
+    pub fn is_registered(self, node: Node) -> bool
         ensures { result ≡ registered (slot_of node) (bytes_of self.entry) }
     {
         0 < self.record.byte(node.name_at())
     }
 
     // The node is registered under the sender's name.
-    pub(crate) fn is_sender(self, node: Node, host: &[u8]) -> bool
+    pub fn is_sender(self, node: Node, host: &[u8]) -> bool
         ensures { result ≡ is_sender (slot_of node) host.now (bytes_of self.entry) }
     {
         self.is_registered(node) & same_name(self.name(node), host)
