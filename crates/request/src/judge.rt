@@ -14,9 +14,9 @@ use reader::visit::visit;
 fn judge_header(noted: &Noted) -> Result<(), Refusal>
     ensures { Answers noted.now.request.now (first (version_test noted.now.request.now ∷ length_test noted.now.request.now ∷ error_test noted.now.request.now ∷ [])) result }
 {
-    version_test(noted)?;
-    length_test(noted)?;
-    error_test(noted)
+    version_test(noted.header)?;
+    length_test(noted.header, noted.request.len())?;
+    error_test(noted.header)
 }
 
 // The refusal of a request, if one applies.
@@ -25,10 +25,10 @@ pub fn judge(noted: &Noted) -> Result<(), Refusal>
 {
     judge_header(noted)?;
     let visit = visit(noted.request);
-    fault_test(noted, visit)?;
-    application_test(noted)?;
-    command_test(noted)?;
-    unsupported_test(noted, visit)?;
+    fault_test(visit)?;
+    application_test(noted.header)?;
+    command_test(noted.command)?;
+    unsupported_test(visit)?;
     repeated_test(noted)?;
     absent_test(noted)?;
     values_test(noted)

@@ -1,20 +1,25 @@
 // The refusals with an answer, each a test by itself: fine, or the refusal. The order of the tests is that of `judge`.
-ghost use Rattle.std.specs.Prelude.{◌≡◌, true, false, cond, List, ℕ, [], map};
+ghost use Rattle.std.specs.Prelude.{◌≡◌, true, false, cond, List, ℕ, ◌≤◌, [], map, length};
 ghost use Rattle.std.proofs.Math.Option.{none, some};
 ghost use Rattle.paper.specs.Reader.{told};
 ghost use Rattle.paper.specs.Find.{first_second};
-ghost use Rattle.paper.specs.Request.{view_of, avps_of, key_number, used, version_test, length_test, error_test, fault_test, application_test, command_test, unsupported_test, repeated_test, first_absent, missing, refuse, absent_test, values_test};
-ghost use Rattle.request.specs.Profile.{key_at};
+ghost use Rattle.paper.specs.Layout.{message_header};
+ghost use Rattle.paper.specs.Profile.{command_of};
+ghost use Rattle.paper.specs.Request.{command_code, view_of, avps_of, key_number, used, version_test, length_test, error_test, fault_test, application_test, command_test, unsupported_test, repeated_test, first_absent, missing, refuse, absent_test, values_test};
+ghost use Rattle.reader.specs.Header.{header_of};
+ghost use Rattle.request.specs.Profile.{row_of, key_at};
 ghost use Rattle.request.specs.Place.{sought_of};
 ghost use Rattle.request.specs.Test.{Answers, refusal_of, shown_test, is_four};
 
 use crate::noted::{Noted, avps_of};
 use crate::place::{Spot, earlier};
+use crate::profile::Command;
 use crate::values::{is_imei, is_imsi, is_name, is_plmn};
 use dictionary::{Key, Kind, lookup};
 use paper::keys::{IMEI, ORIGIN_HOST, USER_NAME, VISITED_PLMN_ID};
 use paper::profile::APPLICATION;
 use paper::{Failed, ResultCode, Visit};
+use reader::header::Header;
 
 // A refusal with an answer: its Result-Code, the AVP that Failed-AVP shows, and whether the answer echoes Session-Id and Proxy-Info.
 #[derive(Clone, Copy, Debug, PartialEq, Eq)]
@@ -47,39 +52,38 @@ fn mute(code: u32, failed: Option<Failed>) -> Refusal
 }
 
 // 5011: version not 1.
-pub(crate) fn version_test(noted: &Noted) -> Result<(), Refusal>
-    ensures { Answers noted.now.request.now (version_test noted.now.request.now) result }
+pub fn version_test(header: Header) -> Result<(), Refusal>
+    ensures { (m : List ℕ) → header ≡ header_of m → Answers m (version_test m) result }
 {
-    if noted.header.version == 1 {
+    if header.version == 1 {
         return Ok(());
     }
     Err(mute(5011, None))
 }
 
-// 5015: the length field is not the bytes given, or they are no multiple of 4.
-pub(crate) fn length_test(noted: &Noted) -> Result<(), Refusal>
-    ensures { Answers noted.now.request.now (length_test noted.now.request.now) result }
+// 5015: the length field is not the `n` bytes given, or they are no multiple of 4.
+pub fn length_test(header: Header, n: usize) -> Result<(), Refusal>
+    ensures { (m : List ℕ) → header ≡ header_of m → n ≡ length m → Answers m (length_test m) result }
 {
-    let n = noted.request.len();
-    if (noted.header.length as usize == n) & (n % 4 == 0) {
+    if (header.length as usize == n) & (n % 4 == 0) {
         return Ok(());
     }
     Err(mute(5015, None))
 }
 
 // 3008: E bit set.
-pub(crate) fn error_test(noted: &Noted) -> Result<(), Refusal>
-    ensures { Answers noted.now.request.now (error_test noted.now.request.now) result }
+pub fn error_test(header: Header) -> Result<(), Refusal>
+    ensures { (m : List ℕ) → header ≡ header_of m → Answers m (error_test m) result }
 {
-    if noted.header.flags / 32 % 2 == 1 {
+    if header.flags / 32 % 2 == 1 {
         return Err(mute(3008, None));
     }
     Ok(())
 }
 
 // 5014 or 5004: the first fault of the visit, shown by its head alone.
-pub(crate) fn fault_test(noted: &Noted, visit: Visit) -> Result<(), Refusal>
-    ensures { visit ≡ told (view_of noted.now.request.now) → Answers noted.now.request.now (fault_test noted.now.request.now) result }
+pub fn fault_test(visit: Visit) -> Result<(), Refusal>
+    ensures { (m : List ℕ) → message_header ≤ length m → visit ≡ told (view_of m) → Answers m (fault_test m) result }
 {
     match visit {
         Visit::Fault { code, at, end } => Err(mute(code, Some(Failed::Bare { at, end }))),
@@ -88,28 +92,28 @@ pub(crate) fn fault_test(noted: &Noted, visit: Visit) -> Result<(), Refusal>
 }
 
 // 3007: another application.
-pub(crate) fn application_test(noted: &Noted) -> Result<(), Refusal>
-    ensures { Answers noted.now.request.now (application_test noted.now.request.now) result }
+pub fn application_test(header: Header) -> Result<(), Refusal>
+    ensures { (m : List ℕ) → header ≡ header_of m → Answers m (application_test m) result }
 {
-    if noted.header.application == APPLICATION {
+    if header.application == APPLICATION {
         return Ok(());
     }
     Err(refuse(3007, None))
 }
 
 // 3001: no command of the profile.
-pub(crate) fn command_test(noted: &Noted) -> Result<(), Refusal>
-    ensures { Answers noted.now.request.now (command_test noted.now.request.now) result }
+pub fn command_test(command: Option<Command>) -> Result<(), Refusal>
+    ensures { (m : List ℕ) → row_of command ≡ command_of (command_code m) → Answers m (command_test m) result }
 {
-    match noted.command {
+    match command {
         Some(_) => Ok(()),
         None => Err(refuse(3001, None)),
     }
 }
 
 // 5001: the first unknown AVP with M, where the visit has no fault.
-pub(crate) fn unsupported_test(noted: &Noted, visit: Visit) -> Result<(), Refusal>
-    ensures { visit ≡ told (view_of noted.now.request.now) → fault_test noted.now.request.now ≡ none → Answers noted.now.request.now (unsupported_test noted.now.request.now) result }
+pub fn unsupported_test(visit: Visit) -> Result<(), Refusal>
+    ensures { (m : List ℕ) → message_header ≤ length m → visit ≡ told (view_of m) → fault_test m ≡ none → Answers m (unsupported_test m) result }
 {
     match visit {
         Visit::Unsupported { at, end } => Err(refuse(5001, Some(Failed::Whole { at, end }))),
@@ -145,7 +149,7 @@ fn second_used(noted: &Noted) -> Option<Spot>
 }
 
 // 5009: the second of an AVP that the command uses, at the top or as an IMEI of Terminal-Information; the one that stands first.
-pub(crate) fn repeated_test(noted: &Noted) -> Result<(), Refusal>
+pub fn repeated_test(noted: &Noted) -> Result<(), Refusal>
     ensures { Answers noted.now.request.now (repeated_test noted.now.request.now) result }
 {
     let imei = noted.terminal_avps().second(&[IMEI]);
@@ -179,7 +183,7 @@ fn first_absent(noted: &Noted, required: &[Key]) -> Result<(), Refusal>
 }
 
 // 5005: a required AVP absent; the first in the profile's order.
-pub(crate) fn absent_test(noted: &Noted) -> Result<(), Refusal>
+pub fn absent_test(noted: &Noted) -> Result<(), Refusal>
     ensures { Answers noted.now.request.now (absent_test noted.now.request.now) result }
 {
     match noted.command {
@@ -199,7 +203,7 @@ fn value_test(right: bool, found: Option<Spot>) -> Result<(), Refusal>
 }
 
 // 5004: User-Name, Origin-Host, Visited-PLMN-Id, IMEI, in this order.
-pub(crate) fn values_test(noted: &Noted) -> Result<(), Refusal>
+pub fn values_test(noted: &Noted) -> Result<(), Refusal>
     ensures { Answers noted.now.request.now (values_test noted.now.request.now) result }
 {
     let user_name = noted.find_used(USER_NAME);

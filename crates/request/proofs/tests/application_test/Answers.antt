@@ -2,8 +2,8 @@
 use Rattle.request.proofs.TestLaws.{application-right, application-wrong}
 use Rattle.request.proofs.tests.application_test.Goals as goal
 
-pub returns-then-noted-eq-APPLICATION : goal.returns-then-noted-eq-APPLICATION
-returns-then-noted-eq-APPLICATION c = application-right _ c.args.noted.now.read c.if-noted-eq-APPLICATION.true
+pub returns-then-header-eq-APPLICATION : goal.returns-then-header-eq-APPLICATION
+returns-then-header-eq-APPLICATION c = λ m e. application-right m e c.if-header-eq-APPLICATION.true
 
 pub returns : goal.returns
-returns c = rw c.refuse.ensures (application-wrong _ c.args.noted.now.read c.if-noted-eq-APPLICATION.false)
+returns c = λ m e. rw c.refuse.ensures (application-wrong m e c.if-header-eq-APPLICATION.false)

@@ -3,7 +3,7 @@ use Rattle.request.proofs.TestLaws.{command-right, command-wrong}
 use Rattle.request.proofs.tests.command_test.Goals as goal
 
 pub returns-in-Some : goal.returns-in-Some
-returns-in-Some c = command-right _ c.args.noted.now.own c.in-Some.is
+returns-in-Some c = λ m e. command-right m e c.in-Some.is
 
 pub returns-in-None : goal.returns-in-None
-returns-in-None c = rw c.refuse.ensures (command-wrong _ c.args.noted.now.own c.in-None.is)
+returns-in-None c = λ m e. rw c.refuse.ensures (command-wrong m e c.in-None.is)

@@ -2,8 +2,8 @@
 use Rattle.request.proofs.TestLaws.{version-right, version-wrong}
 use Rattle.request.proofs.tests.version_test.Goals as goal
 
-pub returns-then-noted-eq1 : goal.returns-then-noted-eq1
-returns-then-noted-eq1 c = version-right _ c.args.noted.now.read c.if-noted-eq1.true
+pub returns-then-header-eq1 : goal.returns-then-header-eq1
+returns-then-header-eq1 c = λ m e. version-right m e c.if-header-eq1.true
 
 pub returns : goal.returns
-returns c = rw c.mute.ensures (version-wrong _ c.args.noted.now.read c.if-noted-eq1.false)
+returns c = λ m e. rw c.mute.ensures (version-wrong m e c.if-header-eq1.false)
