@@ -4,17 +4,20 @@ use mathlib.Core.Path.{◌≡◌, refl, sym, ap, ◌∙◌}
 use mathlib.Core.Bool.{Bool, true, false, cond}
 use mathlib.Core.Option.{Option, none, some}
 use mathlib.Core.List.{List, []}
-use Prim.Native.Nat.{ℕ, ◌+◌, ◌-◌}
+use Prim.Native.Nat.{ℕ, ◌+◌, ◌-◌, ◌≤◌, ◌<◌}
 use native.Mathlib.Omega.{arith}
 use lib.Dec.{ltb}
 use lib.ListN.{length, drop, length-drop}
+use borrow.Author.Tests.{lt-ltb, le-ltb}
 use Rattle.std.specs.Prelude as Std
 use Rattle.std.specs.Prelude.{Some, None, is_some}
 use Rattle.std.proofs.lemmas.Option.{none-some, same_Some}
+use Rattle.wire.proofs.ListLaws.{length_part}
 use Rattle.paper.specs.Avp.{head_size, flags_of, length_of, body_of, avp_of}
 use Rattle.paper.specs.Reader.{Placed, placed, avps, body_at}
 use Rattle.paper.specs.Find.{first_of, first_second, body_found}
 use Rattle.paper.specs.Request.{earlier, inside, is_there}
+use Rattle.paper.specs.Shown.{stretch}
 use Rattle.paper.specs.ShownIn.{Standing}
 use Rattle.paper.proofs.AvpLaws.{framed_at, head_and-body}
 use Rattle.paper.proofs.AvpsLaws.{avps_empty}
@@ -22,9 +25,9 @@ use Rattle.paper.proofs.StandsIn.{body-fits, body-part}
 use Rattle.avp.specs.declared.cursor.Avp.{Avp}
 use Rattle.avp.specs.Step.{avp_at}
 use Rattle.avp.specs.Found.{found_at}
-use Rattle.avp.proofs.FindLaws.{Lies, found-lies, second-lies, found-placed, nothing_placed, second-placed, no_second-placed}
+use Rattle.avp.proofs.FindLaws.{Lies, lies-inside, found-lies, second-lies, found-placed, nothing_placed, second-placed, no_second-placed}
 use Rattle.request.specs.declared.place.Spot.{Spot}
-use Rattle.request.specs.Place.{spot_of, sought_of, earlier_sought, FoundIn, data_in, Finds}
+use Rattle.request.specs.Place.{spot_of, sought_of, earlier_sought, InMessage, DataIn, FoundIn, data_in, Finds}
 
 -- ---- from a place in the list to a place in the message
 
@@ -46,7 +49,19 @@ module _ (base : ℕ) (s : List ℕ) where
       let e₃ : base + a.end ≡ base + a.at + head_size (flags_of x) + length (body_of x) = omega arith in
       λ j. record { at = base + a.at; end = e₁ j; from = e₂ j; to = e₃ j }
 
+  -- its places can be counted where all of the list's can
+  spot_fits : {a : Avp} {f : Option Placed} → Lies s a f → {top : ℕ} → base + length s < top → (base + a.at < top) × (base + a.end < top) × (base + a.start < top)
+  spot_fits l h =
+      let k = lies-inside l in
+      let p = k.place in
+      let o = k.order in
+      let f = k.fits in
+      (omega arith, omega arith, omega arith)
+
   module _ (vendor code : ℕ) where
+    pub found-fits : {a : Avp} → Some a ≡ found_at s (first_of vendor code (avps 0 s)) → {top : ℕ} → base + length s < top → (base + a.at < top) × (base + a.end < top) × (base + a.start < top)
+    found-fits e h = spot_fits (found-lies s vendor code e) h
+
     pub found_spot : {a : Avp} → Some a ≡ found_at s (first_of vendor code (avps 0 s)) → {r : Spot} → r ≡ spot_at base s a → Some r ≡ sought_of (first_of vendor code (avps base s))
     found_spot e q = ap Some (q ∙ spot_placed (found-lies s vendor code e)) ∙ sym (ap sought_of (found-placed base s vendor code e))
 
@@ -54,6 +69,9 @@ module _ (base : ℕ) (s : List ℕ) where
     found_no_spot e = sym (ap sought_of (nothing_placed base s vendor code e))
 
   module _ (keys : List ℕ) where
+    pub second_fits : {a : Avp} → Some a ≡ found_at s (first_second keys [] (avps 0 s)) → {top : ℕ} → base + length s < top → (base + a.at < top) × (base + a.end < top) × (base + a.start < top)
+    second_fits e h = spot_fits (second-lies s keys e) h
+
     pub second_spot : {a : Avp} → Some a ≡ found_at s (first_second keys [] (avps 0 s)) → {r : Spot} → r ≡ spot_at base s a → Some r ≡ sought_of (first_second keys [] (avps base s))
     second_spot e q = ap Some (q ∙ spot_placed (second-lies s keys e)) ∙ sym (ap sought_of (second-placed base s keys e))
 
@@ -61,6 +79,12 @@ module _ (base : ℕ) (s : List ℕ) where
     second_no_spot e = sym (ap sought_of (no_second-placed base s keys e))
 
 -- ---- of two the earlier
+
+pub earlier-first : (p q : Spot) → q.at < p.at → Some q ≡ earlier_sought (Some p) (Some q)
+earlier-first p q h = rw (lt-ltb q.at p.at h)
+
+pub earlier-second : (p q : Spot) → p.at ≤ q.at → Some p ≡ earlier_sought (Some p) (Some q)
+earlier-second p q h = rw (le-ltb q.at p.at h)
 
 pub earlier_sought_lem : (o q : Option Placed) → earlier_sought (sought_of o) (sought_of q) ≡ sought_of (earlier o q)
 unfolding earlier
@@ -84,6 +108,15 @@ module _ (m : List ℕ) where
   data_bytes (some p) t =
       let e : body_at p + length p.avp.body - body_at p ≡ length p.avp.body = omega arith in
       rw e (body-part m p (t p refl))
+
+-- the data of an AVP stands in the message
+pub data_stands : (m : List ℕ) {s : Spot} → DataIn m s → {x : List ℕ} → x ≡ stretch m s.from s.to → InMessage m s.from x
+data_stands m {s} d {x} q =
+    let o = d.order in
+    let f = d.fits in
+    let n : length x ≡ s.to - s.from = ap length q ∙ length_part s.from (s.to - s.from) m (omega arith) in
+    let e : s.to ≡ s.from + length x = omega arith in
+    record { fits = omega arith; same = q ∙ ap (stretch m s.from) e }
 
 -- what is found in the message, from the places that the search answers
 pub finds_lem : (m : List ℕ) (o : Option Placed) → Standing m o → {f : Std.Option Spot} → f ≡ sought_of o → Finds m o f

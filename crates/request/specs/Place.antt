@@ -23,6 +23,11 @@ earlier_sought None g = g
 earlier_sought (Some p) None = Some p
 earlier_sought (Some p) (Some q) = cond (ltb q.at p.at) (Some q) (Some p)
 
+-- the bytes `s` stand in the message from `at` on
+pub record InMessage (m : List ℕ) (at : ℕ) (s : List ℕ) : Type 0 where
+  pub fits : at + length s ≤ length m
+  pub same : s ≡ stretch m at (at + length s)
+
 -- the data of an AVP lies inside the message
 pub record DataIn (m : List ℕ) (s : Spot) : Type 0 where
   pub order : s.from ≤ s.to

@@ -2,10 +2,10 @@
 ghost use Rattle.std.specs.Prelude.{◌≡◌};
 ghost use Rattle.std.specs.Option.{option_map};
 ghost use Rattle.wire.specs.Number.{num_at};
-ghost use Rattle.paper.specs.Reader.{avps};
 ghost use Rattle.paper.specs.Request.{has, used, if_used, terminal, imei_of};
 ghost use Rattle.paper.specs.Shown.{stretch};
 ghost use Rattle.request.specs.Place.{DataIn, FoundIn, data_in, Finds};
+ghost use Rattle.request.specs.Held.{Frames};
 ghost use Rattle.request.specs.Profile.{key_at};
 
 use crate::noted::Noted;
@@ -16,7 +16,7 @@ use wire::number::get_cut;
 
 impl<'a> Noted<'a> {
     // Its command uses the AVP of this key.
-    fn uses(&self, key: Key) -> bool
+    pub fn uses(&self, key: Key) -> bool
         ensures { result ≡ has (key_at key) (used self.now.request.now) }
     {
         // A match: with `is_some_and` the proof did not close, since the closure's call tells it nothing of the command.
@@ -27,7 +27,7 @@ impl<'a> Noted<'a> {
     }
 
     // The first AVP of a key, where the command uses that.
-    pub(crate) fn find_used(&self, key: Key) -> Option<Spot>
+    pub fn find_used(&self, key: Key) -> Option<Spot>
         ensures { Finds self.now.request.now (if_used (key_at key) self.now.request.now) result }
     {
         if self.uses(key) {
@@ -38,7 +38,7 @@ impl<'a> Noted<'a> {
     }
 
     // The data of an AVP that was found.
-    pub(crate) fn data(&self, spot: Spot) -> &'a [u8]
+    pub fn data(&self, spot: Spot) -> &'a [u8]
         requires { DataIn self.now.request.now spot }
         ensures { result.now ≡ stretch self.now.request.now spot.from spot.to }
     {
@@ -46,7 +46,7 @@ impl<'a> Noted<'a> {
     }
 
     // The data of what was found, no bytes where nothing was.
-    pub(crate) fn data_of(&self, found: Option<Spot>) -> &'a [u8]
+    pub fn data_of(&self, found: Option<Spot>) -> &'a [u8]
         requires { FoundIn self.now.request.now found }
         ensures { result.now ≡ data_in self.now.request.now found }
     {
@@ -57,7 +57,7 @@ impl<'a> Noted<'a> {
     }
 
     // The same, and told apart where nothing was found.
-    pub(crate) fn data_if(&self, found: Option<Spot>) -> Option<&'a [u8]>
+    pub fn data_if(&self, found: Option<Spot>) -> Option<&'a [u8]>
         requires { FoundIn self.now.request.now found }
         ensures { option_map (λ x. x.now) result ≡ option_map (λ s. stretch self.now.request.now s.from s.to) found }
     {
@@ -66,7 +66,7 @@ impl<'a> Noted<'a> {
     }
 
     // The data of what was found as a number of four bytes.
-    pub(crate) fn number_if(&self, found: Option<Spot>) -> Option<u32>
+    pub fn number_if(&self, found: Option<Spot>) -> Option<u32>
         requires { FoundIn self.now.request.now found }
         ensures { result ≡ option_map (λ s. num_at 4 (stretch self.now.request.now s.from s.to) 0) found }
     {
@@ -74,9 +74,9 @@ impl<'a> Noted<'a> {
         Some(get_cut(self.data(spot), 0, 4) as u32)
     }
 
-    // The AVPs inside Terminal-Information, if the command uses that; none where it is not there.
-    pub(crate) fn terminal_avps(&self) -> AvpList<'a>
-        ensures { avps result.at result.bytes.now ≡ terminal self.now.request.now }
+    // The AVPs inside Terminal-Information where they stand, if the command uses that; none where it is not there.
+    pub fn terminal_avps(&self) -> AvpList<'a>
+        ensures { Frames self.now.request.now (terminal self.now.request.now) result.at result.bytes.now }
     {
         let Some(spot) = self.find_used(TERMINAL_INFORMATION) else {
             return AvpList {

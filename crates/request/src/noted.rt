@@ -7,7 +7,7 @@ ghost use Rattle.paper.specs.Layout.{message_header};
 ghost use Rattle.paper.specs.Profile.{command_of};
 ghost use Rattle.paper.specs.Request.{command_code, find, avps_of};
 ghost use Rattle.reader.specs.Header.{header_of};
-ghost use Rattle.request.specs.Held.{Places, second_noted};
+ghost use Rattle.request.specs.Held.{Places, second_noted, Frames};
 ghost use Rattle.request.specs.Place.{Finds};
 ghost use Rattle.request.specs.Profile.{row_of, key_at};
 
@@ -35,10 +35,11 @@ pub struct Noted<'a> {
 }
 
 // All AVPs behind the header.
-pub(crate) fn avps_of(m: &[u8]) -> AvpList
+pub fn avps_of(m: &[u8]) -> AvpList
     requires { message_header ≤ length m.now }
     ensures at { result.at ≡ message_header }
     ensures bytes { result.bytes.now ≡ drop message_header m.now }
+    ensures framed { Frames m.now (avps_of m.now) result.at result.bytes.now }
 {
     AvpList {
         at: MESSAGE_HEADER,

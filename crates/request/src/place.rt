@@ -1,6 +1,6 @@
 // AVPs sought in a list of AVPs that stands in a message; what is found is told by its places in the message.
 ghost use Rattle.std.specs.Prelude.{◌≡◌, [], ◌+◌, ◌≤◌, ◌<◌, ◌^◌, length, map};
-ghost use Rattle.avp.specs.Found.{Inside, number};
+ghost use Rattle.avp.specs.Found.{number};
 ghost use Rattle.paper.specs.Reader.{avps};
 ghost use Rattle.paper.specs.Find.{first_of, first_second};
 ghost use Rattle.request.specs.Place.{sought_of, earlier_sought};
@@ -28,8 +28,8 @@ pub struct AvpList<'a> {
 
 impl AvpList<'_> {
     // An AVP of the list, by places of the message.
-    pub(crate) fn spot_of(&self, a: Avp) -> Spot
-        requires { Inside self.now.bytes.now a }
+    pub fn spot_of(&self, a: Avp) -> Spot
+        requires { (self.now.at + a.at < 2 ^ 64) × (self.now.at + a.end < 2 ^ 64) × (self.now.at + a.start < 2 ^ 64) }
         ensures { result ≡ record { at = self.now.at + a.at; end = self.now.at + length self.now.bytes.now; from = self.now.at + a.start; to = self.now.at + a.end } }
     {
         Spot {
@@ -41,7 +41,7 @@ impl AvpList<'_> {
     }
 
     // The first AVP of a key.
-    pub(crate) fn find(&self, key: Key) -> Option<Spot>
+    pub fn find(&self, key: Key) -> Option<Spot>
         ensures { result ≡ sought_of (first_of key.vendor key.code (avps self.now.at self.now.bytes.now)) }
     {
         let a = find(self.bytes, key)?;
@@ -49,7 +49,7 @@ impl AvpList<'_> {
     }
 
     // The first AVP that is a second of one of the keys.
-    pub(crate) fn second(&self, keys: &[Key]) -> Option<Spot>
+    pub fn second(&self, keys: &[Key]) -> Option<Spot>
         requires { length keys.now ≤ 16 }
         ensures { result ≡ sought_of (first_second (map number keys.now) [] (avps self.now.at self.now.bytes.now)) }
     {
@@ -59,7 +59,7 @@ impl AvpList<'_> {
 }
 
 // Of two that were found the one that stands first.
-pub(crate) fn earlier(f: Option<Spot>, g: Option<Spot>) -> Option<Spot>
+pub fn earlier(f: Option<Spot>, g: Option<Spot>) -> Option<Spot>
     ensures { result ≡ earlier_sought f g }
 {
     match (f, g) {

@@ -4,4 +4,4 @@ use Rattle.request.proofs.tests.repeated_test.Goals as goal
 
 pub returns : goal.returns
 returns c =
-    repeated_answers _ c.args.noted.now.whole c.second_used.ensures c.terminal_avps.ensures c.second-imei.ensures c.earlier.ensures c.shown.ensures
+    repeated_answers _ c.args.noted.now.whole c.second_used.ensures c.terminal_avps.ensures.same c.second-imei.ensures c.earlier.ensures c.shown.ensures

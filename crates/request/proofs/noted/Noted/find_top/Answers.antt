@@ -1,7 +1,6 @@
 -- `request::noted::Noted::find_top` meets its contract. Assumes nothing.
 use Rattle.request.specs.Profile.{key_at}
-use Rattle.avp.proofs.FindLaws.{lies-inside, found-lies}
-use Rattle.request.proofs.PlaceLaws.{found_spot, found_no_spot}
+use Rattle.request.proofs.PlaceLaws.{found-fits, found_spot, found_no_spot}
 use Rattle.request.proofs.HeldLaws.{found_top}
 use Rattle.request.proofs.noted.Noted.find_top.Goals as goal
 
@@ -14,7 +13,7 @@ returns-in_err-a c =
     rw c.from_residual.ensures (found_top _ (key_at c.args.key) c.args.self.now.whole l.at l.bytes (found_no_spot _ _ _ _ c.in_err-a.ensures))
 
 pub spot_of-requires : goal.spot_of-requires
-spot_of-requires c = lies-inside (found-lies _ _ _ c.in_ok-a.ensures)
+spot_of-requires c = found-fits _ _ _ _ c.in_ok-a.ensures c.avps_of-list.result.fits
 
 pub returns : goal.returns
 returns c =

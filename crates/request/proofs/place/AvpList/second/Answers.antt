@@ -1,13 +1,12 @@
 -- `request::place::AvpList::second` meets its contract. Assumes nothing.
-use Rattle.avp.proofs.FindLaws.{lies-inside, second-lies}
-use Rattle.request.proofs.PlaceLaws.{second_spot, second_no_spot}
+use Rattle.request.proofs.PlaceLaws.{second_fits, second_spot, second_no_spot}
 use Rattle.request.proofs.place.AvpList.second.Goals as goal
 
 pub returns-in_err-a : goal.returns-in_err-a
 returns-in_err-a c = rw c.from_residual.ensures (second_no_spot _ _ _ c.in_err-a.ensures)
 
 pub spot_of-requires : goal.spot_of-requires
-spot_of-requires c = lies-inside (second-lies _ _ c.in_ok-a.ensures)
+spot_of-requires c = second_fits _ _ _ c.in_ok-a.ensures c.args.self.now.fits
 
 pub returns : goal.returns
 returns c = second_spot _ _ _ c.in_ok-a.ensures c.spot_of.ensures
