@@ -25,7 +25,7 @@ use Rattle.request.specs.Profile.{row_of, key_at}
 use Rattle.request.specs.Test.{Answers, shown_test}
 use Rattle.request.proofs.PlaceLaws.{earlier_sought_lem, finds_lem}
 use Rattle.request.proofs.TestLaws.{fine, shown_answers}
-use Rattle.request.proofs.ChainLaws.{first-append}
+use Rattle.request.proofs.ChainLaws.{Left, first-append}
 
 -- ---- tests over a command
 
@@ -83,10 +83,36 @@ module _ (m : List ℕ) where
   abbrev pub of_header : List (Option Refusal)
   of_header = version_test m ∷ length_test m ∷ error_test m ∷ []
 
+  -- the chain from each test on
+  abbrev pub from_values : List (Option Refusal)
+  from_values = values_test m ∷ []
+
+  abbrev pub from_absent : List (Option Refusal)
+  from_absent = absent_test m ∷ from_values
+
+  abbrev pub from_repeated : List (Option Refusal)
+  from_repeated = repeated_test m ∷ from_absent
+
+  abbrev pub from_unsupported : List (Option Refusal)
+  from_unsupported = unsupported_test m ∷ from_repeated
+
+  abbrev pub from_command : List (Option Refusal)
+  from_command = command_test m ∷ from_unsupported
+
+  abbrev pub from_application : List (Option Refusal)
+  from_application = application_test m ∷ from_command
+
+  abbrev pub from_fault : List (Option Refusal)
+  from_fault = fault_test m ∷ from_application
+
   abbrev pub behind_header : List (Option Refusal)
-  behind_header = fault_test m ∷ application_test m ∷ command_test m ∷ unsupported_test m ∷ repeated_test m ∷ absent_test m ∷ values_test m ∷ []
+  behind_header = from_fault
 
   -- the tests of the header first, as one
+  pub left-header : Left (refusal m) (first of_header ∷ from_fault)
+  unfolding refusal
+  left-header = record { same = first-append of_header from_fault }
+
   pub judged : {r : Result (Unit {0}) Code.Refusal} → Answers m (or_else (first of_header) (first behind_header)) r → Answers m (refusal m) r
   unfolding refusal
   judged a = rw (first-append of_header behind_header) a

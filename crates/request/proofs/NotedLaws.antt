@@ -11,6 +11,7 @@ use borrow.Author.Tests.{eqb-true}
 use Rattle.std.specs.Prelude as Std
 use Rattle.std.specs.Prelude.{Some, None}
 use Rattle.dictionary.specs.Rows.{key_of}
+use Rattle.dictionary.specs.declared.Key as Dictionary
 use Rattle.paper.specs.Reader.{Placed, Avps, whole, broken, more, avps}
 use Rattle.paper.specs.Find.{member, first_second}
 use Rattle.paper.specs.Profile as Paper
@@ -18,7 +19,7 @@ use Rattle.paper.specs.Profile.{Key, command_of, commands, command_in}
 use Rattle.paper.specs.Request.{avps_of, command_code, is_there, key_number, used, used_in}
 use Rattle.reader.specs.declared.header.Header.{Header}
 use Rattle.reader.specs.Header.{header_of}
-use Rattle.avp.specs.Found.{found_at, number}
+use Rattle.avp.specs.Found.{found_at, number, Noted}
 use Rattle.avp.proofs.FindLaws.{no_second-placed}
 use Rattle.request.specs.declared.profile.Command.{Command}
 use Rattle.request.specs.declared.profile.Command.TheVariants.{Ulr, Pur, Nor}
@@ -35,6 +36,11 @@ command-read m e = ap (λ (h : Header). h.command) e
 
 pub own-command : (m : List ℕ) {h : Header} → h ≡ header_of m → {c : Option Paper.Command} → c ≡ command_of h.command → c ≡ command_of (command_code m)
 own-command m e q = q ∙ ap command_of (command-read m e)
+
+-- ---- its places, of the same bytes and keys
+
+pub noted_same : {s r : List ℕ} {keys ks : List Dictionary.Key} {places : List (Std.Option ℕ)} → s ≡ r → keys ≡ ks → Noted r ks places → Noted s keys places
+noted_same e q n = rw (e, q) n
 
 -- ---- no key twice
 
@@ -120,7 +126,7 @@ used-within (Some Ulr) = refl
 used-within (Some Pur) = refl
 used-within (Some Nor) = refl
 
-none-there : (o : Option Placed) → is_there o ≡ false → o ≡ none
+pub none-there : (o : Option Placed) → is_there o ≡ false → o ≡ none
 none-there none e = refl
 none-there (some p) e = absurd (false≢true (sym e))
 

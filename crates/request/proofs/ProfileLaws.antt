@@ -1,15 +1,37 @@
--- The profile's keys: std's search of them is the paper's.
+-- The profile against the paper's list of commands: codes that are no command, flag words; and std's search of its keys is the paper's.
 -- Assumes nothing.
 use mathlib.Core.Path.{◌≡◌, refl, sym}
 use mathlib.Core.Bool.{Bool, true, false, ◌&&◌}
+use mathlib.Core.Option.{none}
 use mathlib.Core.List.{List, [], ◌∷◌, map}
 use Prim.Native.Nat.{ℕ}
 use lib.Dec.{eqb}
 use borrow.Author.Tests.{eq-eqb, ne_eqb, eqb-true, eqb-false}
 use Rattle.std.specs.List.{list_any}
 use Rattle.dictionary.specs.declared.Key.{Key}
+use Rattle.paper.specs.Profile.{command_in, command_of, commands, ulr, pur, nor, ulr_flags, pur_flags, nor_flags}
 use Rattle.paper.specs.Request.{has}
+use Rattle.paper.specs.Asked.{flags_key}
 use Rattle.request.specs.Profile.{key_at}
+
+module _ (code : ℕ) where
+  pub no_command : (code ≡ ulr → ⊥) → (code ≡ pur → ⊥) → (code ≡ nor → ⊥) → none ≡ command_of code
+  unfolding command_of commands command_in
+  no_command a b d = simp (ne_eqb ulr code (λ e. a (sym e)), ne_eqb pur code (λ e. b (sym e)), ne_eqb nor code (λ e. d (sym e)))
+
+  pub flags_of_ulr : code ≡ ulr → ulr_flags ≡ flags_key code
+  unfolding flags_key
+  flags_of_ulr e = rw (eq-eqb code ulr e)
+
+  pub flags_of_pur : (code ≡ ulr → ⊥) → code ≡ pur → pur_flags ≡ flags_key code
+  unfolding flags_key
+  flags_of_pur a e = rw (ne_eqb code ulr a, eq-eqb code pur e)
+
+  pub flags_of_others : (code ≡ ulr → ⊥) → (code ≡ pur → ⊥) → nor_flags ≡ flags_key code
+  unfolding flags_key
+  flags_of_others a b = rw (ne_eqb code ulr a, ne_eqb code pur b)
+
+-- ---- a key among keys
 
 eqb_turned : (a b : ℕ) → eqb a b ≡ eqb b a
 eqb_turned a b = go (eqb a b) refl

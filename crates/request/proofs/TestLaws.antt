@@ -17,7 +17,7 @@ use Rattle.dictionary.specs.declared.Kind.TheVariants.{Four, Eight, Any, Group, 
 use Rattle.dictionary.specs.declared.Key.{Key}
 use Rattle.dictionary.specs.Rows.{kind_of}
 use Rattle.paper.specs.declared.Visit.{Visit}
-use Rattle.paper.specs.declared.Visit.TheVariants.{Fault, Unsupported}
+use Rattle.paper.specs.declared.Visit.TheVariants.{Clean, Fault, Unsupported}
 use Rattle.paper.specs.declared.Failed.TheVariants.{Whole, Bare, Missing}
 use Rattle.paper.specs.Reader.{Placed, Avps, Faulty, tell, told}
 use Rattle.paper.specs.Find.{body_found}
@@ -91,20 +91,28 @@ module _ (m : List ℕ) {h : Header} (e : h ≡ header_of m) where
   application-wrong q = plain m 3007 true (rw (ne_eqb (application_of m) application (λ p. q (ap (λ (k : Header). k.application) e ∙ p))))
 
 -- each case is a command
-a_command : (d : Command) → ◌≡◌ {A = Option Refusal} (cond (is_command (row_of (Some d))) none (refuse 3001 none)) none
+a_command : (d : Command) → is_command (row_of (Some d)) ≡ true
 unfolding command_of commands command_in is_command
 a_command Ulr = refl
 a_command Pur = refl
 a_command Nor = refl
 
+module _ (m : List ℕ) (c : Std.Option Command) (own : row_of c ≡ command_of (command_code m)) where
+  pub command_held : is_command (row_of c) ≡ true → Answers m (command_test m) (Ok tt)
+  unfolding command_test
+  command_held q = fine m (rw (ap is_command (sym own) ∙ q))
+
+  pub command_none : is_command (row_of c) ≡ false → Answers m (command_test m) (Err (refusal_of 3001 None true))
+  unfolding command_test
+  command_none q = plain m 3001 true (rw (ap is_command (sym own) ∙ q))
+
 module _ (m : List ℕ) {c : Std.Option Command} (own : row_of c ≡ command_of (command_code m)) where
   pub command-right : {d : Command} → c ≡ Some d → Answers m (command_test m) (Ok tt)
-  unfolding command_test
-  command-right {d} q = fine m (rw (sym own ∙ ap row_of q) (a_command d))
+  command-right {d} q = command_held m c own (ap (λ x. is_command (row_of x)) q ∙ a_command d)
 
   pub command-wrong : c ≡ None → Answers m (command_test m) (Err (refusal_of 3001 None true))
-  unfolding command_test is_command
-  command-wrong q = plain m 3001 true (rw (sym own ∙ ap row_of q))
+  unfolding is_command
+  command-wrong q = command_none m c own (ap (λ x. is_command (row_of x)) q)
 
 -- ---- what the visit tells
 
@@ -169,6 +177,25 @@ module _ (m : List ℕ) {v : Visit} (e : v ≡ told (view_of m)) where
   pub unsupported-fine : fault_test m ≡ none → ((at to : ℕ) → v ≡ Unsupported at to → ⊥) → Answers m (unsupported_test m) (Ok tt)
   unfolding told fault_test unsupported_test of_found
   unsupported-fine q n = fine m (ap (of_found 5001) (not_unsupported (view_of m).fault (view_of m).unsupported q e n))
+
+-- a fault is not told where there is none
+fault-not-told : (f : Option Faulty) (u : Option Placed) {code at to : ℕ} → of_fault f ≡ none → Fault code at to ≡ tell f u → ⊥
+unfolding tell of_fault
+fault-not-told none none q e = cc
+fault-not-told none (some p) q e = cc
+fault-not-told (some g) u q e = cc
+
+module _ (m : List ℕ) where
+  pub clean_fine : Clean ≡ told (view_of m) → Answers m (fault_test m) (Ok tt)
+  clean_fine e = fault-fine m e (λ code at to q. cc)
+
+  pub clean_supported : Clean ≡ told (view_of m) → Answers m (unsupported_test m) (Ok tt)
+  clean_supported e = unsupported-fine m e (sym (clean_fine e).same) (λ at to q. cc)
+
+  -- a fault was refused before
+  pub fault-refused : {code at to : ℕ} {x : Option Refusal} {r : Result (Unit {0}) Code.Refusal} → fault_test m ≡ none → Fault code at to ≡ told (view_of m) → Answers m x r
+  unfolding told fault_test
+  fault-refused q e = absurd (fault-not-told (view_of m).fault (view_of m).unsupported q e)
 
 -- ---- AVPs that were sought
 

@@ -6,6 +6,13 @@ use Rattle.paper.specs.Profile.{user_name, visited_plmn_id}
 use Rattle.paper.specs.Request.{value_of}
 use Rattle.paper.specs.Asked.{asked_of, imei_in}
 use Rattle.request.specs.declared.accept.Accepted.{Accepted}
+use Rattle.request.specs.Place.{InMessage}
+
+-- the bytes `s` are those of a stretch of `m`, and are `x`
+pub record SpanOf (m x s : List ℕ) : Type 0 where
+  pub at : ℕ
+  pub inside : InMessage m at s
+  pub same : s ≡ x
 
 pub record Accepts (m : List ℕ) (r : Accepted) : Type 0 where
   pub asked : r.asked ≡ asked_of m
