@@ -44,11 +44,8 @@ pub fn key_less(a: Key, b: Key) -> bool
 pub fn compare(a: Key, b: Key) -> Ordering
     ensures { result ≡ nat_cmp (key_num a) (key_num b) }
 {
-    if a.0 == b.0 {
-        a.1.cmp(&b.1)
-    } else {
-        a.0.cmp(&b.0)
-    }
+    let (x, y) = if a.0 == b.0 { (a.1, b.1) } else { (a.0, b.0) };
+    x.cmp(&y)
 }
 
 // The number of records that the header says.
