@@ -12,7 +12,7 @@ from damaged import verdict
 
 PUBLIC = ("crates/dymosaw/src/", "crates/dymosaw_c/src/")
 # The law by which an impl of the trait says what its functions give; one of any other trait says it by the `ensures` of each.
-LAWS = {"From": "from_gives", "TryFrom": "try_from_gives", "Iterator": "next_gives", "Number": "value"}
+LAWS = {"From": "from_gives", "TryFrom": "try_from_gives", "Iterator": "next_gives", "Number": "value", "Kinds": "kind"}
 PAGE, HEADING = "docs/STATEMENTS.md", "## Two outcomes allowed for one input"
 
 
