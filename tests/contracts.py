@@ -1,7 +1,7 @@
 """contracts.py [--self-test]: no function that another crate or a caller can name is without a statement.
 
-Every `pub fn` and `pub(crate) fn` of crates/*/src has an `ensures`, and every impl of a trait there the trait's law of what its functions give, or an `ensures` of
-each. The public calls are those of crate dymosaw and of crate dymosaw_c, which hands two of them to C, in the
+Every `pub fn` and `pub(crate) fn` of crates/*/src, and every function that a trait declares there, has an `ensures`, and every impl of a trait the trait's law of what
+its functions give, or an `ensures` of each. The public calls are those of crate dymosaw and of crate dymosaw_c, which hands two of them to C, in the
 modules that their lib.rt make public: none of them has a `requires`, since C and any bytes come in there, and each has its row in docs/STATEMENTS.md, "Two
 outcomes allowed for one input". A call of crate dymosaw_c says word for word what the call of its name in crate dymosaw says, of which the promises speak.
 With --self-test damaged copies must each be found out.
@@ -32,7 +32,7 @@ def clauses_of(text, at):
     found = []
     while True:
         word = re.compile(r"\b(requires|ensures)\b(?:\s+(\w+))?\s*(?=\{)|\{").search(text, at)
-        if not word.group(1):
+        if not word or not word.group(1) or re.search(r";\s*$", text[at : word.start()], re.M):
             return found
         at = closing(text, word.end(), "{}")
         found.append((word.group(1), text[word.end() + 1 : at - 1].strip(), word.group(2)))
@@ -41,7 +41,14 @@ def clauses_of(text, at):
 def public_functions(text):
     """(name, clauses) of each public function of a file."""
     bare = re.sub(r"//[^\n]*", "", text)
-    return [(f.group(1), clauses_of(bare, bare.index("(", f.end()))) for f in re.finditer(r'\bpub(?:\(crate\))? (?:const )?(?:extern "C" )?fn (\w+)', bare)]
+    named = [*re.finditer(r'\bpub(?:\(crate\))? (?:const )?(?:extern "C" )?fn (\w+)', bare), *trait_functions(bare)]
+    return [(f.group(1), clauses_of(bare, bare.index("(", f.end()))) for f in named]
+
+
+def trait_functions(bare):
+    """Each function that a trait of a file declares."""
+    for head in re.finditer(r"\btrait \w+[^{;]*\{", bare):
+        yield from re.compile(r"\bfn (\w+)").finditer(bare, head.end(), closing(bare, head.end() - 1, "{}"))
 
 
 def trait_impls(text):
@@ -128,6 +135,8 @@ DAMAGES = [
     ("crates/avp/src/cursor.rt", "pub fn", "pub fn empty(x: [u8; 4]) -> u8\n    ensures { ⊤ }\n{\n    0\n}\n\npub fn", "empty ensures nothing"),
     ("crates/dymosaw/src/serve.rt", "    ghost from_gives = ", "    ghost from_given = ", "the impl of From for u32 says nothing of its functions"),
     ("crates/avp/src/cursor.rt", "    ghost next_gives = { YieldsFirst left };\n", "", "the impl of Iterator for Avps<'a> says nothing of its functions"),
+    ("crates/wire/src/number.rt", "        requires { v < 256 ^ WIDTH }\n        ensures { value result ≡ v };", "        requires { v < 256 ^ WIDTH };", "narrowed ensures nothing"),
+    ("crates/wire/src/number.rt", "    fn widened(self) -> u64\n        ensures { result ≡ value self };", "    fn widened(self) -> u64;", "widened ensures nothing"),
     ("crates/wire/src/number.rt", "    ghost value = { λ x. x };", "    ghost value = { λ x. ⊤ };", "the impl of Number for u8 says nothing of its functions"),
     ("crates/wire/src/put.rt", "pub fn", "impl Default for Silence {\n    fn default() -> Self {\n        Silence\n    }\n}\n\npub fn", "the impl of Default for Silence says nothing"),
 ]
