@@ -1,8 +1,9 @@
 -- The static holds the specification's rows and their keys ascend, by computed tests over all rows; the row with a key, in any rows whose keys ascend, and what a
 -- search by halves uses of it.
 use Rattle.std.proofs.Common.{◌≡◌, refl, sym, ap, ◌∙◌, ℕ, zero, suc, ◌≤◌, ◌<◌, Bool, true, ◌&&◌, List, [], ◌∷◌, length, get_or, Ok, Err, arith}
-use lib.Dec.{ltb}
-use borrow.Author.Tests.{eq-eqb, ne_eqb, ltb-true}
+use mathlib.Core.Path.{ap₂}
+use lib.Dec.{eqb, ltb}
+use borrow.Author.Tests.{eq-eqb, ne_eqb, eqb-true, ltb-true}
 use native.Mathlib.Nat.{not-suc-le-zero, le_of_suc-le-suc, lt_trans}
 use Rattle.std.specs.List.Sorted.{IsNonDecreasingBy, IsBinarySearchResult}
 use Rattle.std.specs.Ordering.{nat_cmp, ordering_index}
@@ -147,3 +148,11 @@ module _ (rs : List Row) (held : rs ≡ rows) (vendor code k : ℕ) (key : k ≡
 
   pub kind_absent : (i : ℕ) → IsBinarySearchResult (λ r. nat_cmp (number r) k) rs (Err i) → Unknown ≡ kind_of vendor code
   kind_absent i parted = absent_in rs (rows_rise held) vendor code k key i parted ∙ kind_of_rows held vendor code
+
+-- a row whose key compares equal, field by field
+pub kind_met : (rs : List Row) → rs ≡ rows → (vendor code i : ℕ) (d : Row) {t : Bool} → i < length rs
+    → t ≡ (eqb (get_or rs i d).key.code code && eqb (get_or rs i d).key.vendor vendor) → t ≡ true → (get_or rs i d).kind ≡ kind_of vendor code
+kind_met rs held vendor code i d h e t =
+    let p = both_true (eqb (get_or rs i d).key.code code) (eqb (get_or rs i d).key.vendor vendor) (sym e ∙ t) in
+    let same : number (get_or rs i d) ≡ key_of vendor code = ap₂ key_of (eqb-true _ _ p.1) (eqb-true _ _ p.0) in
+    sym (kind_at rs (rows_rise held) vendor code i d h (key_at rs i d h ∙ same)) ∙ kind_of_rows held vendor code

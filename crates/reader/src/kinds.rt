@@ -3,7 +3,14 @@ ghost use Rattle.std.specs.Prelude.{ℕ, ◌≡◌, true};
 ghost use Rattle.dictionary.specs.declared.Kind.{Kind};
 ghost use Rattle.dictionary.specs.Rows.{rising, keys_of, kind_in, kind_of};
 
-use dictionary::{Key, Kind, Row, lookup, lookup_in};
+use dictionary::{Key, Kind, ROWS, Row, lookup, lookup_in};
+
+// Where a search by halves looks first, second and third for keys that are below each time.
+const MIDDLE: usize = ROWS.len() / 2;
+
+const QUARTER: usize = MIDDLE / 2;
+
+const EIGHTH: usize = QUARTER / 2;
 
 pub(crate) trait Kinds: Copy {
     ghost kind: { Self → ℕ → ℕ → Kind };
@@ -19,7 +26,18 @@ pub(crate) struct Known;
 impl Kinds for Known {
     ghost kind = { λ known. kind_of };
 
+    // The lookup halves to the end, also where it has met the key: three rows are asked before it. One by one, since a loop over them makes every other key
+    // dearer; and here, since with them in `lookup` the compiler takes it out of the visit's loop.
     fn of(self, key: Key) -> Kind {
+        if ROWS[MIDDLE].key == key {
+            return ROWS[MIDDLE].kind;
+        }
+        if ROWS[QUARTER].key == key {
+            return ROWS[QUARTER].kind;
+        }
+        if ROWS[EIGHTH].key == key {
+            return ROWS[EIGHTH].kind;
+        }
         lookup(key)
     }
 }
