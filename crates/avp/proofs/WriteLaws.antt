@@ -132,9 +132,9 @@ module _ (vendor code : ℕ) (d : List ℕ) (e : length d % 4 ≡ 0) {l l₁ l�
       sym (length_head code (flags_for vendor true) vendor (length d) ∙ head_size_for vendor true) in
       wrote-same (group_parts vendor code d e) (wrote_under (rw n at h) (rw n at v) w)
 
--- what is asked where a group is closed
-pub group_ask : (vendor : ℕ) {d : List ℕ} {w w₁ w₂ : Writer} {start : ℕ} → start ≡ w.at → Opened w (group_head_size vendor) w₁ → Appended w₁ d w₂ → w₂.at < start + group_head_size vendor + 16777200
-    → (start + group_head_size vendor ≤ w₂.at) × (w₂.at < start + group_head_size vendor + 16777200) × Room w₂ 0
+-- what is asked where a group is closed, for any bound of its end
+pub group_ask : (vendor : ℕ) {d : List ℕ} {w w₁ w₂ : Writer} {start bound : ℕ} → start ≡ w.at → Opened w (group_head_size vendor) w₁ → Appended w₁ d w₂ → w₂.at < bound
+    → (start + group_head_size vendor ≤ w₂.at) × (w₂.at < bound) × Room w₂ 0
 group_ask vendor e o p h =
     let a = o.at in
     let n = p.wrote.next in
